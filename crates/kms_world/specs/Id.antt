@@ -1,0 +1,7 @@
+-- Ids: a UUID of version 8 (RFC 9562 section 5.8), as the number of its 128 bits, the first the most significant.
+use Rattle.std.specs.Prelude.{ℕ, ◌+◌, ◌*◌, ◌/◌, ◌%◌, ◌^◌}
+
+-- From the left: the tag's upper 48 bits, the version 8 in 4 bits, the tag's lower 12 bits, the variant 10 in 2 bits,
+-- and the count in 62 bits. A tag is below 2 ^ 60, a count below 2 ^ 62.
+abbrev pub id_number : ℕ → ℕ → ℕ
+id_number tag count = tag / 2 ^ 12 * 2 ^ 80 + 8 * 2 ^ 76 + tag % 2 ^ 12 * 2 ^ 64 + 2 * 2 ^ 62 + count

@@ -1,0 +1,12 @@
+pub mod Action
+pub mod ContainerKind
+pub mod Field
+pub mod Id
+pub mod Name
+pub mod NameFields
+pub mod Names
+pub mod Pairs
+pub mod QuotaKind
+pub mod SecretKind
+pub mod State
+pub mod Why

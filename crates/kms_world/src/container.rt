@@ -1,0 +1,93 @@
+// Containers and their consumers.
+ghost use Rattle.std.specs.Prelude.{◌≡◌, ◌++◌, [], ◌∷◌, OnOk, OnErr};
+ghost use Rattle.kms_world.specs.ContainerKind.{word_of};
+
+use crate::{Id, Name, NoMemory, Text};
+use std::alloc::Global;
+use std::marker::Model;
+
+/// What a container holds.
+#[derive(Clone, Copy, Debug, PartialEq, Eq)]
+pub enum ContainerKind {
+    Generic,
+    Rsa,
+    Certificate,
+}
+
+impl ContainerKind {
+    /// The word for the kind in bodies and answers.
+    pub const fn word(self) -> &'static str
+        ensures { result.now ≡ word_of self }
+    {
+        match self {
+            ContainerKind::Generic => "generic",
+            ContainerKind::Rsa => "rsa",
+            ContainerKind::Certificate => "certificate",
+        }
+    }
+}
+
+/// The secrets that a container names, each by its id and maybe under a name. Contracts see the list.
+#[derive(Drop, Debug)]
+pub struct Members {
+    items: Vec<(Option<Text>, Id)>,
+}
+
+impl Model for Members {
+    ghost use Rattle.std.specs.Prelude.{List, ℕ, Option};
+    ghost use Rattle.kms_world.specs.declared.id.Id.{Id};
+
+    ghost Value = { List (Option (List ℕ) × Id) };
+
+    ghost view = { λ m. m.items.items };
+}
+
+impl Members {
+    /// No members; takes no memory.
+    pub fn new(alloc: Global) -> Members
+        ensures { result ≡ [] }
+    {
+        Members {
+            items: Vec::new(alloc),
+        }
+    }
+
+    /// Puts a member behind the others. After `NoMemory` they are as before.
+    pub fn push(&mut self, name: Option<Text>, secret: Id) -> Result<(), NoMemory>
+        ensures ok { OnOk result (self.new ≡ self.old ++ (name, secret) ∷ []) }
+        ensures err { OnErr result (self.new ≡ self.old) }
+    {
+        self.items.push((name, secret))?;
+        Ok(())
+    }
+
+    /// The members in their order.
+    pub fn as_slice(&self) -> &[(Option<Text>, Id)]
+        ensures { result.now ≡ self.now }
+    {
+        &self.items
+    }
+}
+
+/// A container of secrets. Times are whole seconds since 1970; the name has at most 255 bytes.
+#[derive(Drop, Debug)]
+pub struct ContainerRow {
+    pub id: Id,
+    pub project: Name,
+    /// the user who made it
+    pub creator: Name,
+    pub created: u64,
+    pub updated: u64,
+    pub name: Option<Text>,
+    pub kind: ContainerKind,
+    pub secrets: Members,
+}
+
+/// Somebody who uses a container: a name and a URL of 1 to 255 bytes each, and when it was registered.
+#[derive(Drop, Debug)]
+pub struct ConsumerRow {
+    pub container: Id,
+    pub name: Text,
+    pub url: Text,
+    pub created: u64,
+}

@@ -1,0 +1,38 @@
+//! What the key manager speaks of: ids, callers, rows, operations, answers and refusals.
+#![tactic(auto)]
+
+mod acl;
+mod action;
+mod answer;
+mod bytes;
+mod caller;
+mod container;
+mod id;
+mod name;
+mod operation;
+mod order;
+mod pairs;
+mod payload;
+mod quota;
+mod refusal;
+mod reply;
+mod secret;
+mod text;
+
+pub use acl::{AclRow, Names};
+pub use action::{Action, Rule, Why};
+pub use answer::{Answer, Link};
+pub use bytes::{Bytes, NoMemory};
+pub use caller::{Caller, Roles};
+pub use container::{ConsumerRow, ContainerKind, ContainerRow, Members};
+pub use id::{Id, id_of};
+pub use name::Name;
+pub use operation::{Op, SecretBody};
+pub use order::{Cause, OrderRow, OrderState};
+pub use pairs::Pairs;
+pub use payload::{Media, Payload};
+pub use quota::{QuotaKind, QuotaRow};
+pub use refusal::{Allow, CheckFault, Field, Refusal};
+pub use reply::{Media2, Reply};
+pub use secret::{SecretKind, SecretRow};
+pub use text::Text;

@@ -1,0 +1,73 @@
+// Secrets.
+ghost use Rattle.std.specs.Prelude.{◌≡◌, option_map, Option};
+ghost use Rattle.kms_world.specs.SecretKind.{word_of, kind_of};
+
+use crate::{Id, Name, Pairs, Payload, Text};
+
+/// What a secret is said to be (`secret_type`). The key manager treats all kinds alike.
+#[derive(Clone, Copy, Debug, PartialEq, Eq)]
+pub enum SecretKind {
+    Symmetric,
+    Public,
+    Private,
+    Passphrase,
+    Certificate,
+    Opaque,
+}
+
+impl SecretKind {
+    /// The word for the kind in bodies and answers.
+    pub const fn word(self) -> &'static str
+        ensures { result.now ≡ word_of self }
+    {
+        match self {
+            SecretKind::Symmetric => "symmetric",
+            SecretKind::Public => "public",
+            SecretKind::Private => "private",
+            SecretKind::Passphrase => "passphrase",
+            SecretKind::Certificate => "certificate",
+            SecretKind::Opaque => "opaque",
+        }
+    }
+
+    /// The kind that a word names. None exactly where it is none of the six.
+    pub fn read(word: &[u8]) -> Option<SecretKind>
+        ensures { result ≡ kind_of word.now }
+    {
+        if word == "symmetric".as_bytes() {
+            Some(SecretKind::Symmetric)
+        } else if word == "public".as_bytes() {
+            Some(SecretKind::Public)
+        } else if word == "private".as_bytes() {
+            Some(SecretKind::Private)
+        } else if word == "passphrase".as_bytes() {
+            Some(SecretKind::Passphrase)
+        } else if word == "certificate".as_bytes() {
+            Some(SecretKind::Certificate)
+        } else if word == "opaque".as_bytes() {
+            Some(SecretKind::Opaque)
+        } else {
+            None
+        }
+    }
+}
+
+/// A secret. Times are whole seconds since 1970; texts have at most 255 bytes; a bit length is 1 to 32,767.
+#[derive(Drop, Debug)]
+pub struct SecretRow {
+    pub id: Id,
+    pub project: Name,
+    /// the user who made it
+    pub creator: Name,
+    pub created: u64,
+    pub updated: u64,
+    pub name: Option<Text>,
+    pub algorithm: Option<Text>,
+    pub bit_length: Option<u16>,
+    pub mode: Option<Text>,
+    pub kind: SecretKind,
+    /// from this time on the secret isn't there any more
+    pub expiration: Option<u64>,
+    pub payload: Option<Payload>,
+    pub metadata: Pairs,
+}
