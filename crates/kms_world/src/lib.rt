@@ -17,6 +17,8 @@ mod quota;
 mod refusal;
 mod reply;
 mod secret;
+#[cfg(test)]
+mod tests;
 mod text;
 
 pub use acl::{AclRow, Names};
