@@ -7,6 +7,7 @@ pub mod NameFields
 pub mod Names
 pub mod Pairs
 pub mod QuotaKind
+pub mod Secret
 pub mod SecretKind
 pub mod State
 pub mod Why

@@ -1,8 +1,10 @@
 // Secrets.
-ghost use Rattle.std.specs.Prelude.{◌≡◌, option_map, Option};
+ghost use Rattle.std.specs.Prelude.{◌≡◌, IfOk, option_map};
 ghost use Rattle.kms_world.specs.SecretKind.{word_of, kind_of};
+ghost use Rattle.kms_world.specs.Secret.{without_bytes};
 
-use crate::{Id, Name, Pairs, Payload, Text};
+use crate::{Bytes, Id, Name, NoMemory, Pairs, Payload, Text};
+use std::alloc::Global;
 
 /// What a secret is said to be (`secret_type`). The key manager treats all kinds alike.
 #[derive(Clone, Copy, Debug, PartialEq, Eq)]
@@ -70,4 +72,50 @@ pub struct SecretRow {
     pub expiration: Option<u64>,
     pub payload: Option<Payload>,
     pub metadata: Pairs,
+}
+
+fn text_copied(text: &Option<Text>) -> Result<Option<Text>, NoMemory>
+    ensures { IfOk result (λ copy. copy ≡ text.now) }
+{
+    match text {
+        None => Ok(None),
+        Some(text) => Ok(Some(text.clone()?)),
+    }
+}
+
+fn media_copied(alloc: Global, payload: &Option<Payload>) -> Option<Payload>
+    ensures { result ≡ option_map without_bytes payload.now }
+{
+    match payload {
+        None => None,
+        Some(payload) => Some(Payload {
+            media: payload.media,
+            bytes: Bytes::new(alloc),
+        }),
+    }
+}
+
+impl SecretRow {
+    ghost use Rattle.kms_world.specs.Secret.{attributes_of};
+
+    /// A copy of the attributes: of the payload its media type alone, and no metadata.
+    pub fn attributes(&self, alloc: Global) -> Result<SecretRow, NoMemory>
+        ensures { IfOk result (λ row. row ≡ attributes_of self.now) }
+    {
+        Ok(SecretRow {
+            id: self.id,
+            project: self.project,
+            creator: self.creator,
+            created: self.created,
+            updated: self.updated,
+            name: text_copied(&self.name)?,
+            algorithm: text_copied(&self.algorithm)?,
+            bit_length: self.bit_length,
+            mode: text_copied(&self.mode)?,
+            kind: self.kind,
+            expiration: self.expiration,
+            payload: media_copied(alloc, &self.payload),
+            metadata: Pairs::new(alloc),
+        })
+    }
 }

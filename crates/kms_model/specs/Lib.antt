@@ -1,0 +1,4 @@
+pub mod Ask
+pub mod AskSecret
+pub mod Plain
+pub mod Run
