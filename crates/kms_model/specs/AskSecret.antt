@@ -1,12 +1,12 @@
 -- The plain key manager on secrets.
-use Rattle.std.specs.Prelude.{ℕ, ◌+◌, ◌^◌, ◌==◌, ◌&&◌, Bool, true, List, [], ◌∷◌, ◌++◌, Option, Some, None, option_map, if◌then◌else◌, nat_lt, find}
+use Rattle.std.specs.Prelude.{ℕ, ◌+◌, ◌^◌, ◌==◌, ◌&&◌, Bool, true, List, [], ◌∷◌, ◌++◌, Option, Some, None, if◌then◌else◌, nat_lt, find}
 use Rattle.std.specs.Str.{bytes_eq}
 use Rattle.kms_world.specs.Id.{id_number}
+use Rattle.kms_world.specs.Secret.{attributes_of}
 use Rattle.kms_world.specs.State.{State}
 use Rattle.kms_world.specs.declared.id.Id.{Id}
 use Rattle.kms_world.specs.declared.caller.Caller.{Caller}
 use Rattle.kms_world.specs.declared.operation.SecretBody.{SecretBody}
-use Rattle.kms_world.specs.declared.payload.Payload.{Payload}
 use Rattle.kms_world.specs.declared.secret.SecretRow.{SecretRow}
 use Rattle.kms_world.specs.declared.secret.SecretKind.TheVariants.{Opaque}
 use Rattle.kms_world.specs.declared.refusal.Refusal.TheVariants.{NoObject, IdsSpent}
@@ -57,13 +57,6 @@ abbrev pub secret_at : State → Caller → Option Id → ℕ → Option SecretR
 secret_at s caller None t = None
 secret_at s caller (Some id) t = find (is_secret caller id t) s.secrets
 
-abbrev pub without_bytes : Payload → Payload
-without_bytes p = record { media = p.media; bytes = [] }
-
--- the attributes alone
-abbrev pub shown : SecretRow → SecretRow
-shown row = record row { payload = option_map without_bytes row.payload; metadata = [] }
-
 abbrev pub posted_answer : State → Answer
 posted_answer s = if has_id s then Link 201 SecretLink (next_id s) else Refused IdsSpent
 
@@ -71,5 +64,5 @@ abbrev pub posted_state : State → Caller → SecretBody → ℕ → State
 posted_state s caller body t = if has_id s then with_secret s (new_secret s caller body t) else s
 
 abbrev pub found_answer : Option SecretRow → Answer
-found_answer (Some row) = Secret (shown row)
+found_answer (Some row) = Secret (attributes_of row)
 found_answer None = Refused NoObject

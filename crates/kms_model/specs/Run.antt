@@ -1,27 +1,14 @@
 -- The plain key manager over a run: requests at their times, one after the other.
-use Rattle.std.specs.Prelude.{ℕ, List, [], ◌∷◌, Option, Some, None}
+use Rattle.std.specs.Prelude.{ℕ, List, [], ◌∷◌, length, replicate, Option, Some, None}
 use Rattle.kms_world.specs.State.{State}
-use Rattle.kms_world.specs.declared.caller.Caller.{Caller}
-use Rattle.kms_world.specs.declared.operation.Op.{Op}
-use Rattle.kms_world.specs.declared.refusal.Refusal.{Refusal}
 use Rattle.kms_world.specs.declared.answer.Answer.{Answer}
 use Rattle.kms_world.specs.declared.answer.Answer.TheVariants.{Refused}
 use Rattle.kms_model.specs.Ask.{answer_to, state_after}
-
--- what a message asks for: an operation of a caller, or it was refused before one was known
-pub data Request : Type 0 where
-  Asking : Caller → Op → Request
-  Refusing : Refusal → Request
-
--- a request, and the time at which it is answered, in seconds since 1970
-pub record Event : Type 0 where
-  pub request : Request
-  pub time : ℕ
-
--- the fault that an event was answered with, if any
-pub data Mark : Type 0 where
-  Unmarked : Mark
-  Memory : Mark
+use Rattle.kms_model.specs.declared.event.Event.{Event}
+use Rattle.kms_model.specs.declared.event.Mark.{Mark}
+use Rattle.kms_model.specs.declared.event.Mark.TheVariants.{Unmarked, Memory}
+use Rattle.kms_model.specs.declared.event.Request.{Request}
+use Rattle.kms_model.specs.declared.event.Request.TheVariants.{Asking, Refusing}
 
 abbrev pub asked_answer : State → Request → ℕ → Answer
 asked_answer s (Asking caller op) t = answer_to s caller op t
@@ -52,3 +39,7 @@ abbrev pub answers_of : State → List Event → List Mark → List (Option Answ
 answers_of s [] marks = []
 answers_of s (e ∷ es) [] = []
 answers_of s (e ∷ es) (m ∷ ms) = answer_at s e m ∷ answers_of (state_at s e m) es ms
+
+-- no event was answered with a fault
+abbrev pub unmarked : List Event → List Mark
+unmarked events = replicate (length events) Unmarked

@@ -1,11 +1,13 @@
 // The plain key manager as a program. It is there to be read and compared with, not to be quick.
-ghost use Rattle.std.specs.Prelude.{◌≡◌, ◌<◌, ◌^◌, IfOk, OnOk, OnErr, Ok, option_copied, find};
+ghost use Rattle.std.specs.Prelude.{◌≡◌, ◌<◌, ◌^◌, IfOk, OnOk, OnErr, Some, map, option_copied, find};
+ghost use Rattle.kms_model.specs.Run.{asked_answer, asked_state, answers_of, state_of, unmarked};
 ghost use Rattle.kms_world.specs.State.{empty_state};
 ghost use Rattle.kms_model.specs.Ask.{answer_to, state_after};
-ghost use Rattle.kms_model.specs.AskSecret.{is_secret, is_live, posted_answer, posted_state, secret_at, found_answer, shown};
+ghost use Rattle.kms_model.specs.AskSecret.{is_secret, is_live, posted_answer, posted_state, secret_at, found_answer};
 
+use crate::event::{Event, Request};
 use kms_world::{
-    Answer, Caller, Id, Link, NoMemory, Op, Pairs, Payload, Refusal, SecretBody, SecretKind, SecretRow, Text,
+    Answer, Caller, Id, Link, NoMemory, Op, Pairs, Refusal, SecretBody, SecretKind, SecretRow,
     id_of,
 };
 use std::alloc::Global;
@@ -59,6 +61,30 @@ impl Plain {
         }
     }
 
+    /// Answers the requests in their order. After `NoMemory` those before the one that wanted it are done.
+    pub fn run(&mut self, events: Vec<Event>) -> Result<Vec<Answer>, NoMemory>
+        ensures answers { IfOk result (λ answers. map Some answers.items ≡ answers_of self.old events.items (unmarked events.items)) }
+        ensures ok { OnOk result (self.new ≡ state_of self.old events.items (unmarked events.items)) }
+    {
+        let mut answers = Vec::new(self.alloc);
+        for event in events {
+            let answer = self.answer(event)?;
+            answers.push(answer)?;
+        }
+        Ok(answers)
+    }
+
+    fn answer(&mut self, event: Event) -> Result<Answer, NoMemory>
+        ensures answer { IfOk result (λ a. a ≡ asked_answer self.old event.request event.time) }
+        ensures ok { OnOk result (self.new ≡ asked_state self.old event.request event.time) }
+    {
+        let Event { request, time } = event;
+        match request {
+            Request::Asking(caller, op) => self.ask(&caller, op, time),
+            Request::Refusing(refusal) => Ok(Answer::Refused(refusal)),
+        }
+    }
+
     fn post(&mut self, caller: &Caller, body: SecretBody, moment: u64) -> Result<Answer, NoMemory>
         ensures answer { IfOk result (λ a. a ≡ posted_answer self.old) }
         ensures ok { OnOk result (self.new ≡ posted_state self.old caller.now body moment) }
@@ -99,8 +125,32 @@ impl Plain {
             return Ok(Answer::Refused(Refusal::NoObject));
         };
         match found(&self.secrets, caller, id, moment) {
-            Some(row) => Ok(Answer::Secret(attributes(self.alloc, row)?)),
+            Some(row) => Ok(Answer::Secret(row.attributes(self.alloc)?)),
             None => Ok(Answer::Refused(Refusal::NoObject)),
         }
     }
+}
+
+// Whether a secret of this expiration is there at a time.
+fn is_live(moment: u64, expiration: Option<u64>) -> bool
+    ensures { result ≡ is_live moment expiration }
+{
+    match expiration {
+        None => true,
+        Some(expiration) => moment < expiration,
+    }
+}
+
+fn is_secret(caller: &Caller, id: Id, moment: u64, row: &SecretRow) -> bool
+    ensures { result ≡ is_secret caller.now id moment row.now }
+{
+    row.id.0 == id.0
+        && row.project.as_bytes() == caller.project.as_bytes()
+        && is_live(moment, row.expiration)
+}
+
+fn found<'a>(rows: &'a [SecretRow], caller: &Caller, id: Id, moment: u64) -> Option<&'a SecretRow>
+    ensures { option_copied result ≡ find (is_secret caller.now id moment) rows.now }
+{
+    rows.iter().find(|row| is_secret(caller, id, moment, row))
 }

@@ -1,0 +1,24 @@
+// What comes to a key manager, one after the other.
+use kms_world::{Caller, Op, Refusal};
+
+/// What a message asks for: an operation of a caller, or it was refused before one was known.
+#[derive(Drop, Debug)]
+pub enum Request {
+    Asking(Caller, Op),
+    Refusing(Refusal),
+}
+
+/// A request and the time at which it is answered, in seconds since 1970.
+#[derive(Drop, Debug)]
+pub struct Event {
+    pub request: Request,
+    pub time: u64,
+}
+
+/// The fault that an event was answered with, if any.
+#[derive(Clone, Copy, Debug, PartialEq, Eq)]
+pub enum Mark {
+    Unmarked,
+    /// out of memory
+    Memory,
+}
