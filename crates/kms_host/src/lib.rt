@@ -1,0 +1,10 @@
+//! The outside of the key manager: the trait of its calls, and hosts that meet it.
+#![tactic(auto)]
+
+mod bytes;
+mod call;
+mod host;
+
+pub use bytes::{Bytes, NoMemory};
+pub use call::{Call, Count, Failed};
+pub use host::Host;
