@@ -1,0 +1,106 @@
+// Operations on secrets.
+ghost use Rattle.std.specs.Prelude.{◌≡◌, IfOk, None, option_copied, find};
+ghost use Rattle.kms_model.specs.AskSecret.{is_secret, is_live, posted_answer, posted_state, secret_at, found_answer};
+ghost use Rattle.kms_core.specs.Steps.{Prepares};
+
+use crate::{AskFault, Asked, Engine, Step};
+use kms_world::{
+    Answer, Caller, Id, Link, Pairs, Refusal, SecretBody, SecretKind, SecretRow, id_of,
+};
+
+fn is_live(moment: u64, expiration: Option<u64>) -> bool
+    ensures { result ≡ is_live moment expiration }
+{
+    match expiration {
+        None => true,
+        Some(expiration) => moment < expiration,
+    }
+}
+
+fn is_secret(caller: &Caller, id: Id, moment: u64, row: &SecretRow) -> bool
+    ensures { result ≡ is_secret caller.now id moment row.now }
+{
+    row.id.0 == id.0
+        && row.project.as_bytes() == caller.project.as_bytes()
+        && is_live(moment, row.expiration)
+}
+
+fn found<'a>(rows: &'a [SecretRow], caller: &Caller, id: Id, moment: u64) -> Option<&'a SecretRow>
+    ensures { option_copied result ≡ find (is_secret caller.now id moment) rows.now }
+{
+    rows.iter().find(|row| is_secret(caller, id, moment, row))
+}
+
+fn refused(refusal: Refusal) -> Asked
+    ensures answer { result.answer ≡ Answer.Refused refusal }
+    ensures step { result.step ≡ None }
+{
+    Asked {
+        answer: Answer::Refused(refusal),
+        step: None,
+    }
+}
+
+impl Engine {
+    pub(crate) fn post_secret(
+        &mut self,
+        caller: &Caller,
+        body: SecretBody,
+        moment: u64,
+    ) -> Result<Asked, AskFault>
+        ensures answer { IfOk result (λ a. a.answer ≡ posted_answer self.old.state) }
+        ensures step { IfOk result (λ a. Prepares a.step self.old.state (posted_state self.old.state caller.now body moment) self.new.room) }
+        ensures same { self.new.state ≡ self.old.state }
+    {
+        if self.ids >= 1 << 62 {
+            return Ok(refused(Refusal::IdsSpent));
+        }
+        self.secrets.reserve(1)?;
+        self.room = true;
+        let id = id_of(self.tag, self.ids);
+        let secret = SecretRow {
+            id,
+            project: caller.project,
+            creator: caller.user,
+            created: moment,
+            updated: moment,
+            name: body.name,
+            algorithm: None,
+            bit_length: None,
+            mode: None,
+            kind: SecretKind::Opaque,
+            expiration: None,
+            payload: None,
+            metadata: Pairs::new(self.alloc),
+        };
+        Ok(Asked {
+            answer: Answer::Link {
+                status: 201,
+                link: Link::Secret,
+                id,
+            },
+            step: Some(Step { secret }),
+        })
+    }
+
+    pub(crate) fn get_secret(
+        &self,
+        caller: &Caller,
+        id: Option<Id>,
+        moment: u64,
+    ) -> Result<Asked, AskFault>
+        ensures answer { IfOk result (λ a. a.answer ≡ found_answer (secret_at self.now.state caller.now id moment)) }
+        ensures step { IfOk result (λ a. a.step ≡ None) }
+    {
+        let Some(id) = id else {
+            return Ok(refused(Refusal::NoObject));
+        };
+        match found(&self.secrets, caller, id, moment) {
+            Some(row) => Ok(Asked {
+                answer: Answer::Secret(row.attributes(self.alloc)?),
+                step: None,
+            }),
+            None => Ok(refused(Refusal::NoObject)),
+        }
+    }
+}

@@ -1,0 +1,35 @@
+// Prepared changes.
+use kms_world::{Answer, NoMemory, SecretRow};
+use std::alloc::{AllocError, AllocFailed};
+
+/// A change that was prepared with all the memory that it needs, and not made yet.
+#[derive(Drop, Debug)]
+pub struct Step {
+    /// the secret that it adds
+    pub secret: SecretRow,
+}
+
+/// An answer, and the step that has to be taken over before it is given.
+#[derive(Drop, Debug)]
+pub struct Asked {
+    pub answer: Answer,
+    pub step: Option<Step>,
+}
+
+/// Why an operation has no answer. Nothing has changed.
+#[derive(Clone, Copy, Debug, PartialEq, Eq)]
+pub enum AskFault {
+    NoMemory,
+}
+
+impl From<NoMemory> for AskFault {
+    fn from(_: NoMemory) -> Self {
+        AskFault::NoMemory
+    }
+}
+
+impl From<AllocError> for AskFault {
+    fn from(_: AllocError) -> Self {
+        AskFault::NoMemory
+    }
+}
