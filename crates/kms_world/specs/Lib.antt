@@ -10,4 +10,5 @@ pub mod QuotaKind
 pub mod Secret
 pub mod SecretKind
 pub mod State
+pub mod Times
 pub mod Why
