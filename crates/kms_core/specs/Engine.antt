@@ -1,5 +1,6 @@
 -- What the engine keeps stands for a state.
-use Rattle.std.specs.Prelude.{ℕ, ◌<◌, ◌≤◌, ◌^◌, [], IsTrue, vec_len, vec_capacity}
+use Rattle.std.specs.Prelude.{ℕ, ◌<◌, ◌≤◌, ◌^◌, [], All, IsTrue, vec_len, vec_capacity}
+use Rattle.kms_world.specs.Times.{IsTimely}
 use Rattle.kms_core.specs.Steps.{Held}
 use Rattle.kms_core.specs.declared.engine.Engine.TheInside.{Inside}
 
@@ -22,3 +23,4 @@ pub record IsSound (e : Inside) : Type 0 where
   pub tag : e.tag < 2 ^ 60
   pub ids : e.ids ≤ 2 ^ 62
   pub room : IsTrue e.room → vec_len e.secrets < vec_capacity e.secrets
+  pub times : All IsTimely e.secrets.items

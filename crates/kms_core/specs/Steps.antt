@@ -1,6 +1,7 @@
 -- Steps, and what preparing one promises.
 use Rattle.std.specs.Prelude.{◌≡◌, ◌<◌, ◌^◌, Option, Some, None, Bool, IsTrue}
 use Rattle.kms_world.specs.State.{State}
+use Rattle.kms_world.specs.Times.{IsTimely}
 use Rattle.kms_model.specs.AskSecret.{with_secret}
 use Rattle.kms_core.specs.declared.step.Step.{Step}
 
@@ -13,6 +14,12 @@ abbrev pub after_step : State → Step → State
 after_step s step = with_secret s step.secret
 
 -- the step leads from this state to the next one, and taking it over can't fail
+pub record LeadsTo (step : Step) (before after : State) (has_room : Bool) : Type 0 where
+  pub leads : after_step before step ≡ after
+  pub room : IsTrue has_room
+  pub ids : before.ids < 2 ^ 62
+  pub times : IsTimely step.secret
+
 abbrev pub Prepares : Option Step → State → State → Bool → Type 0
 Prepares None before after room = after ≡ before
-Prepares (Some step) before after room = (after_step before step ≡ after) × IsTrue room × (before.ids < 2 ^ 62)
+Prepares (Some step) before after room = LeadsTo step before after room

@@ -1,6 +1,7 @@
 // The engine and its calls.
 ghost use Rattle.std.specs.Prelude.{◌≡◌, ◌<◌, ◌^◌, IfOk, OnErr, IsTrue};
 ghost use Rattle.kms_world.specs.State.{empty_state};
+ghost use Rattle.kms_world.specs.Times.{HasTimes, IsTimely};
 ghost use Rattle.kms_model.specs.Ask.{answer_to, state_after};
 ghost use Rattle.kms_core.specs.Steps.{after_step, Prepares};
 
@@ -59,6 +60,7 @@ impl Engine {
         requires { moment < 253402300800 }
         ensures answer { IfOk result (λ a. a.answer ≡ answer_to self.old.state caller.now op moment) }
         ensures step { IfOk result (λ a. Prepares a.step self.old.state (state_after self.old.state caller.now op moment) self.new.room) }
+        ensures times { IfOk result (λ a. HasTimes a.answer) }
         ensures same { self.new.state ≡ self.old.state }
         ensures host { host.new ≡ host.old }
     {
@@ -76,6 +78,7 @@ impl Engine {
     pub fn accept(&mut self, step: Step)
         requires room { IsTrue self.old.room }
         requires ids { self.old.state.ids < 2 ^ 62 }
+        requires times { IsTimely step.secret }
         ensures { self.new.state ≡ after_step self.old.state step }
     {
         self.ids += 1;

@@ -1,7 +1,8 @@
 // Operations on secrets.
-ghost use Rattle.std.specs.Prelude.{◌≡◌, IfOk, None, option_copied, find};
+ghost use Rattle.std.specs.Prelude.{◌≡◌, ◌<◌, IfOk, None, option_copied, find};
 ghost use Rattle.kms_model.specs.AskSecret.{is_secret, is_live, posted_answer, posted_state, secret_at, found_answer};
 ghost use Rattle.kms_core.specs.Steps.{Prepares};
+ghost use Rattle.kms_world.specs.Times.{HasTimes};
 
 use crate::{AskFault, Asked, Engine, Step};
 use kms_world::{
@@ -48,8 +49,10 @@ impl Engine {
         body: SecretBody,
         moment: u64,
     ) -> Result<Asked, AskFault>
+        requires { moment < 253402300800 }
         ensures answer { IfOk result (λ a. a.answer ≡ posted_answer self.old.state) }
         ensures step { IfOk result (λ a. Prepares a.step self.old.state (posted_state self.old.state caller.now body moment) self.new.room) }
+        ensures times { IfOk result (λ a. HasTimes a.answer) }
         ensures same { self.new.state ≡ self.old.state }
     {
         if self.ids >= 1 << 62 {
@@ -90,6 +93,7 @@ impl Engine {
         moment: u64,
     ) -> Result<Asked, AskFault>
         ensures answer { IfOk result (λ a. a.answer ≡ found_answer (secret_at self.now.state caller.now id moment)) }
+        ensures times { IfOk result (λ a. HasTimes a.answer) }
         ensures step { IfOk result (λ a. a.step ≡ None) }
     {
         let Some(id) = id else {
