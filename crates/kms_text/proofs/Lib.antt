@@ -1,0 +1,4 @@
+mod CalendarLemmas
+pub mod IdLemmas
+mod ReadLemmas
+pub mod TimeLemmas

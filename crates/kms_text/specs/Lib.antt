@@ -1,0 +1,4 @@
+pub mod Calendar
+pub mod IdText
+pub mod Link
+pub mod Time

@@ -1,0 +1,15 @@
+-- Links (Barbican API v1): an endpoint, the path of a kind of objects, and the text of an id.
+use Rattle.std.specs.Prelude.{ℕ, List, ◌++◌, codes}
+use Rattle.kms_world.specs.declared.id.Id.{Id}
+use Rattle.kms_text.specs.IdText.{id_text_of}
+use Rattle.kms_text.specs.declared.link.Kind.{Kind}
+use Rattle.kms_text.specs.declared.link.Kind.TheVariants.{Secret, Container, Order}
+
+abbrev pub kind_path : Kind → List ℕ
+kind_path Secret = codes "/secrets/"
+kind_path Container = codes "/containers/"
+kind_path Order = codes "/orders/"
+
+-- the link to an object at an endpoint
+abbrev pub link_of : List ℕ → Kind → Id → List ℕ
+link_of endpoint kind id = endpoint ++ kind_path kind ++ id_text_of id

@@ -1,0 +1,39 @@
+// Links to secrets, containers and orders.
+ghost use Rattle.std.specs.Prelude.{◌≡◌, IfOk};
+ghost use Rattle.kms_text.specs.Link.{kind_path, link_of};
+
+use crate::id_text;
+use kms_world::{Id, NoMemory, Text};
+use std::alloc::Global;
+
+/// What a link leads to.
+#[derive(Clone, Copy, Debug, PartialEq, Eq)]
+pub enum Kind {
+    Secret,
+    Container,
+    Order,
+}
+
+impl Kind {
+    fn path(self) -> &'static str
+        ensures { result.now ≡ kind_path self }
+    {
+        match self {
+            Kind::Secret => "/secrets/",
+            Kind::Container => "/containers/",
+            Kind::Order => "/orders/",
+        }
+    }
+}
+
+/// The link to an object: the endpoint, `/secrets/`, `/containers/` or `/orders/`, and the text of its id (Barbican
+/// API v1).
+pub fn ref_text(alloc: Global, endpoint: &str, kind: Kind, id: Id) -> Result<Text, NoMemory>
+    ensures { IfOk result (λ link. link ≡ link_of endpoint.now kind id) }
+{
+    let id = id_text(id);
+    let mut link = String::from_str(alloc, endpoint)?;
+    link.push_str(kind.path())?;
+    link.push_str(std::str::from_utf8(&id).unwrap())?;
+    Text::of(alloc, link.as_str())
+}
