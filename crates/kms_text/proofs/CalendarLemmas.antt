@@ -1,14 +1,17 @@
 -- The date of a day number is the calendar's, and jiff's.
-use Rattle.std.proofs.Common.{◌≡◌, ℕ, zero, suc, ◌+◌, ◌-◌, ◌<◌, ◌≤◌, true, false, nat_lt, inl, inr, refl, sym, ap, ◌∙◌, arith, pos, ◌+ℤ◌, ◌-ℤ◌, unsigned_abs}
-use Rattle.std.proofs.lemmas.Bool.{cases_lt}
+use Rattle.std.proofs.Common.{◌≡◌, ℕ, zero, suc, ◌+◌, ◌-◌, ◌*◌, ◌<◌, ◌≤◌, true, false, nat_lt, inl, inr, refl, sym, ap, ◌∙◌, arith, pos, ◌+ℤ◌, ◌-ℤ◌, unsigned_abs}
+use Rattle.std.proofs.lemmas.Bool.{cases_lt, cases_Bool}
 use Rattle.jiff_core.specs.declared.civil.date.Date.{Date}
 use Rattle.jiff_core.specs.Calendar.{days_of_years as jiff_years, days_of_months as jiff_months, day_count, days_from_civil}
 use Rattle.jiff_core.specs.Date.{epoch_day}
 use Rattle.jiff_core.proofs.SignedLemmas.{signed_arith}
-use Rattle.jiff_core.proofs.CalendarLemmas.{day_count-epoch, day_count-end, days_from_civil-day_count, days_of_months_all}
+use Rattle.jiff_core.proofs.CalendarLemmas.{day_count-epoch, day_count-end, days_from_civil-day_count, days_of_months_all, day_count_bounds}
 use Rattle.jiff_core.proofs.DateLemmas.{epoch_day_injective}
+use Rattle.jiff_core.proofs.MarchLemmas.{days_of_years-march_days}
+use Rattle.jiff_core.specs.Date.{IsYmd}
+use Rattle.jiff_core.specs.Calendar.{IsDate}
 use Rattle.kms_text.specs.declared.calendar.Civil.{Civil}
-use Rattle.kms_text.specs.Calendar.{days_in_year, days_in_month, days_before_year, days_of_months, day_number, epoch, date_in_year, date_after, date_of}
+use Rattle.kms_text.specs.Calendar.{days_in_year, days_in_month, days_before_year, days_of_months, day_number, epoch, date_in_year, date_after, date_of, is_date}
 
 -- jiff counts years from -10000 on
 years_are : (year : ℕ) → jiff_years (10000 + year) ≡ jiff_years 10000 + days_before_year year
@@ -167,3 +170,49 @@ made y z m n d e year month day = cc
 
 pub civil_same : (a b : Civil) → a.year ≡ b.year → a.month ≡ b.month → a.day ≡ b.day → a ≡ b
 civil_same a b year month day = made _ _ _ _ _ _ year month day
+
+jiff_start : jiff_years 10000 ≡ 3_652_425
+jiff_start = omega (arith, days_of_years-march_days 10000)
+
+-- 1970-01-01 is the day 719528 of the calendar
+pub epoch_number : epoch ≡ 719_528
+epoch_number = omega (arith, epoch_is, jiff_start)
+
+pub epoch_seconds : epoch * 86400 ≡ 62_167_219_200
+epoch_seconds = rw epoch_number refl
+
+-- the calendar has the dates that jiff has
+pub is_date_none : (year month day : ℕ) → year < 10000 → ¬ IsDate (pos year) (pos month) (pos day) → is_date year month day ≡ false
+is_date_none year month day small none =
+    elim (cases_Bool (is_date year month day)) [
+      | inl good ↦
+          let low : 1 ≤ month = grind arith in
+          let high : month ≤ 12 = grind arith in
+          let first : 1 ≤ day = grind arith in
+          let last : day ≤ days_in_month year month = grind arith in
+          absurd (none ((omega (arith, signed_arith), omega (arith, signed_arith)), (omega (arith, signed_arith), omega (arith, signed_arith)), (omega (arith, signed_arith), omega (arith, signed_arith))))
+      | inr bad ↦ bad
+    ]
+
+-- jiff's date with these parts
+pub record IsSameDate (year month day : ℕ) (date : Date) : Type 0 where
+  pub good : is_date year month day ≡ true
+  pub count : epoch_day date +ℤ pos 719_528 ≡ pos (day_number year month day)
+  pub small : day_number year month day < 4_000_000
+
+pub good_date : (year month day : ℕ) → 1 ≤ month → month ≤ 12 → 1 ≤ day → day ≤ days_in_month year month → is_date year month day ≡ true
+good_date year month day low high first last = grind arith
+
+pub same_date : (year month day : ℕ) (date : Date) → year < 10000 → IsYmd (pos year) (pos month) (pos day) date → IsSameDate year month day date
+same_date year month day date small parts =
+    let month_is : date.month ≡ month = (let e = parts.1 in cc) in
+    let day_is : date.day ≡ day = (let e = parts.2 in cc) in
+    let months = rw month_is at date.month_in in
+    let days = rw (parts.0, month_is, day_is) at date.day_in in
+    let bounds = day_count_bounds (pos year) month day ((omega (arith, signed_arith), omega (arith, signed_arith)), months, days) in
+    let count = count_is year month day days.0 in
+    record {
+      good = good_date year month day months.0 months.1 days.0 days.1;
+      count = rw (parts.0, month_is, day_is) (omega (arith, signed_arith, days_from_civil-day_count (pos year) month day, jiff_start));
+      small = omega (arith, jiff_start);
+    }

@@ -1,5 +1,5 @@
 -- The proleptic Gregorian calendar (ISO 8601-1 section 4.2.1, RFC 3339 appendix C) from the year 0 on. A month counts from 1.
-use Rattle.std.specs.Prelude.{ℕ, zero, suc, ◌+◌, ◌-◌, ◌%◌, Bool, not, ◌&&◌, ◌||◌, ◌==◌, nat_lt, if◌then◌else◌}
+use Rattle.std.specs.Prelude.{ℕ, zero, suc, ◌+◌, ◌-◌, ◌%◌, Bool, not, ◌&&◌, ◌||◌, ◌==◌, nat_lt, nat_le, Option, Some, None, if◌then◌else◌}
 use Rattle.kms_text.specs.declared.calendar.Civil.{Civil}
 
 -- each fourth year, but of the centuries only each fourth
@@ -28,6 +28,14 @@ days_of_months year (suc n) = days_of_months year n + days_in_month year (suc n)
 -- the number of a day, from 0 for 0000-01-01
 abbrev pub day_number : ℕ → ℕ → ℕ → ℕ
 day_number year month day = days_before_year year + days_of_months year (month - 1) + (day - 1)
+
+-- whether the calendar has this date
+abbrev pub is_date : ℕ → ℕ → ℕ → Bool
+is_date year month day = nat_le 1 month && nat_le month 12 && nat_le 1 day && nat_le day (days_in_month year month)
+
+-- the number of the day of a date, if the calendar has it
+abbrev pub day_of : ℕ → ℕ → ℕ → Option ℕ
+day_of year month day = if is_date year month day then Some (day_number year month day) else None
 
 -- the number of 1970-01-01
 unfoldable pub epoch : ℕ

@@ -9,9 +9,13 @@ use Rattle.uuid.specs.Text.{hyphenated_text, lower, parsed_hyphenated}
 unfoldable pub id_text_of : Id → List ℕ
 id_text_of id = hyphenated_text lower (to_be_bytes w128 id.0)
 
+-- the id with this number
+abbrev pub id_of_number : ℕ → Id
+id_of_number number = record { 0 = number }
+
 -- the id of 16 bytes, the first the most significant
 abbrev pub id_of_bytes : List ℕ → Id
-id_of_bytes bytes = record { 0 = from_be_bytes w128 bytes }
+id_of_bytes bytes = id_of_number (from_be_bytes w128 bytes)
 
 -- the id that a text of that form shows, in either case
 unfoldable pub read_id_of : List ℕ → Option Id

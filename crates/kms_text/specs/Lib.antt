@@ -2,3 +2,4 @@ pub mod Calendar
 pub mod IdText
 pub mod Link
 pub mod Time
+pub mod TimeForms

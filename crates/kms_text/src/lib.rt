@@ -2,10 +2,13 @@
 #![tactic(auto)]
 
 mod calendar;
+mod form;
 mod id;
+pub mod laws;
 mod link;
+mod offset;
 mod time;
 
 pub use id::{id_text, read_id};
-pub use link::{Kind, ref_text};
-pub use time::time_text;
+pub use link::{Kind, read_ref, ref_text};
+pub use time::{read_time, time_text};

@@ -1,8 +1,8 @@
 // Links to secrets, containers and orders.
 ghost use Rattle.std.specs.Prelude.{◌≡◌, IfOk};
-ghost use Rattle.kms_text.specs.Link.{kind_path, link_of};
+ghost use Rattle.kms_text.specs.Link.{kind_path, link_of, read_ref_of};
 
-use crate::id_text;
+use crate::{id_text, read_id};
 use kms_world::{Id, NoMemory, Text};
 use std::alloc::Global;
 
@@ -36,4 +36,18 @@ pub fn ref_text(alloc: Global, endpoint: &str, kind: Kind, id: Id) -> Result<Tex
     link.push_str(kind.path())?;
     link.push_str(std::str::from_utf8(&id).unwrap())?;
     Text::of(alloc, link.as_str())
+}
+
+/// The id of a link to an object of this kind: any front, `/secrets/`, `/containers/` or `/orders/`, and the text of an
+/// id. `None` exactly where the text is no such link. Takes no memory.
+#[tactic(auto, unfolding(crate::specs::Link::read_ref_of))]
+pub fn read_ref(kind: Kind, text: &[u8]) -> Option<Id>
+    ensures { result ≡ read_ref_of kind text.now }
+{
+    let (front, id) = text.split_at(text.len().saturating_sub(36));
+    if front.ends_with(kind.path().as_bytes()) {
+        read_id(id)
+    } else {
+        None
+    }
 }
