@@ -52,7 +52,7 @@ form_not (f ∷ form) (c ∷ text) (suc k) lt off len =
 
 pub is_form : (b : Bool) (form text : List ℕ) → length form ≡ length text
     → MatchBool b ((k : ℕ) → k < length form → fits (slice_index form k) (slice_index text k) ≡ true)
-        ((k : ℕ) × (k < length form) × (fits (slice_index form k) (slice_index text k) ≡ false))
+    ((k : ℕ) × (k < length form) × (fits (slice_index form k) (slice_index text k) ≡ false))
     → b ≡ has_form form text
 is_form true form text len all = sym (form_all form text len all)
 is_form false form text len (k, lt, off) = sym (form_not form text k lt off len)

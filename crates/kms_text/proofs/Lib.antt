@@ -1,6 +1,7 @@
 mod CalendarLemmas
 mod FormLemmas
 pub mod IdLemmas
+pub mod LinkLemmas
 mod MomentLemmas
 mod NumberLemmas
 mod ReadLemmas

@@ -10,13 +10,16 @@ use Rattle.uuid.proofs.TextLemmas.{all_fit}
 use Rattle.uuid.proofs.RoundTrips.{parses_hyphenated_text}
 use Rattle.kms_text.specs.IdText.{id_text_of, read_id_of, id_of_number, id_of_bytes}
 use Rattle.kms_text.proofs.NumberLemmas.{from_be_bytes-to_be_bytes_16}
+
 byte_small : (i n : ℕ) → byte_at i n < 256
 byte_small zero n = omega arith
 byte_small (suc i) n = omega arith
+
 bytes_small : (k n i : ℕ) → get_or (bytes_high_first k n) i 0 < 256
 bytes_small zero n i = omega arith
 bytes_small (suc k) n zero = byte_small k n
 bytes_small (suc k) n (suc i) = bytes_small k n i
+
 -- the text of an id reads as that id
 pub id_read : (id : Id) → id.0 < 2 ^ 128 → read_id_of (id_text_of id) ≡ Some id
 unfolding read_id_of id_text_of

@@ -36,12 +36,57 @@ shown date second = date_text date ++ codes "T" ++ clock_text second
 shown_form : (date : Civil) (second : ℕ) → date.year < 10000 → date.month < 100 → date.day < 100 → second < 86400
     → has_form local_form (shown date second) ≡ true
 shown_form date second year month day clock = all_fit local_form (shown date second) (
-      digit_fits (date.year / 1000) (omega arith), (digit_fits (date.year / 100 % 10) (omega arith), (digit_fits (date.year / 10 % 10) (omega arith), (digit_fits (date.year % 10) (omega arith), (refl,
-      (digit_fits (date.month / 10) (omega arith), (digit_fits (date.month % 10) (omega arith), (refl,
-      (digit_fits (date.day / 10) (omega arith), (digit_fits (date.day % 10) (omega arith), (refl,
-      (digit_fits (second / 3600 / 10) (omega arith), (digit_fits (second / 3600 % 10) (omega arith), (refl,
-      (digit_fits (second / 60 % 60 / 10) (omega arith), (digit_fits (second / 60 % 60 % 10) (omega arith), (refl,
-      (digit_fits (second % 60 / 10) (omega arith), (digit_fits (second % 60 % 10) (omega arith), tt)))))))))))))))))))
+  digit_fits (date.year / 1000) (omega arith),
+  (
+    digit_fits (date.year / 100 % 10) (omega arith),
+    (
+      digit_fits (date.year / 10 % 10) (omega arith),
+      (
+        digit_fits (date.year % 10) (omega arith),
+        (
+          refl,
+          (
+            digit_fits (date.month / 10) (omega arith),
+            (
+              digit_fits (date.month % 10) (omega arith),
+              (
+                refl,
+                (
+                  digit_fits (date.day / 10) (omega arith),
+                  (
+                    digit_fits (date.day % 10) (omega arith),
+                    (
+                      refl,
+                      (
+                        digit_fits (second / 3600 / 10) (omega arith),
+                        (
+                          digit_fits (second / 3600 % 10) (omega arith),
+                          (
+                            refl,
+                            (
+                              digit_fits (second / 60 % 60 / 10) (omega arith),
+                              (
+                                digit_fits (second / 60 % 60 % 10) (omega arith),
+                                (
+                                  refl,
+                                  (digit_fits (second % 60 / 10) (omega arith), (digit_fits (second % 60 % 10) (omega arith), tt)),
+                                ),
+                              ),
+                            ),
+                          ),
+                        ),
+                      ),
+                    ),
+                  ),
+                ),
+              ),
+            ),
+          ),
+        ),
+      ),
+    ),
+  ),
+)
 
 second_shown : (second : ℕ) → second < 86400 → second_of (second / 3600) (second / 60 % 60) (second % 60) ≡ Some second
 second_shown second small =

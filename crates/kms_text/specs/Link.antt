@@ -1,5 +1,5 @@
 -- Links (Barbican API v1): an endpoint, the path of a kind of objects, and the text of an id.
-use Rattle.std.specs.Prelude.{ℕ, List, ◌-◌, ◌++◌, length, take, drop, nat_eq, codes, Option, None, if◌then◌else◌}
+use Rattle.std.specs.Prelude.{◌≡◌, ℕ, List, ◌-◌, ◌++◌, length, take, drop, nat_eq, codes, Option, Some, None, if◌then◌else◌}
 use Rattle.std.specs.List.{ends_with}
 use Rattle.kms_world.specs.declared.id.Id.{Id}
 use Rattle.kms_text.specs.IdText.{id_text_of, read_id_of}
@@ -20,3 +20,10 @@ unfoldable pub read_ref_of : Kind → List ℕ → Option Id
 read_ref_of kind text =
     let front = length text - 36 in
     if ends_with nat_eq (take front text) (kind_path kind) then read_id_of (drop front text) else None
+
+-- the text is a link to this object: any front, the kind's path, and a text of the id
+pub record IsLink (kind : Kind) (text : List ℕ) (id : Id) : Type 0 where
+  pub front : List ℕ
+  pub tail : List ℕ
+  pub parts : text ≡ front ++ kind_path kind ++ tail
+  pub id_is : read_id_of tail ≡ Some id

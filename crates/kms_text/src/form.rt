@@ -21,7 +21,9 @@ fn all_fit(form: &[u8], text: &[u8]) -> bool
         ((k : ℕ) → k < length form.now → fits (slice_index form.now k) (slice_index text.now k) ≡ true)
         ((k : ℕ) × (k < length form.now) × (fits (slice_index form.now k) (slice_index text.now k) ≡ false)) }
 {
-    form.iter().zip(text).all(|(place, c)| fits_place(*place, *c))
+    form.iter()
+        .zip(text)
+        .all(|(place, c)| fits_place(*place, *c))
 }
 
 // Whether the text has this form.

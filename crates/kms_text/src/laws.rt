@@ -2,9 +2,11 @@
 ghost use Rattle.std.specs.Prelude.{◌≡◌, ◌<◌, ◌^◌, Some};
 ghost use Rattle.kms_world.specs.Id.{id_number};
 ghost use Rattle.kms_text.specs.IdText.{id_text_of, read_id_of, id_of_number};
+ghost use Rattle.kms_text.specs.Link.{link_of, read_ref_of};
 ghost use Rattle.kms_text.specs.Time.{time_text_of};
 ghost use Rattle.kms_text.specs.TimeForms.{read_time_of};
 
+use crate::Kind;
 use kms_world::Id;
 
 /// The text of each id is read as that id.
@@ -18,8 +20,7 @@ pub fn id_text_is_read(id: &Id)
 pub fn time_text_is_read(moment: u64)
     requires { moment < 253_402_300_800 }
     ensures { read_time_of (time_text_of moment) ≡ Some moment }
-{
-}
+{}
 
 /// Two ids of one tag have equal texts only if they have one count.
 pub fn id_texts_are_apart(tag: u64, first: u64, second: u64)
@@ -28,5 +29,11 @@ pub fn id_texts_are_apart(tag: u64, first: u64, second: u64)
     requires second { second < 2 ^ 62 }
     requires equal { id_text_of (id_of_number (id_number tag first)) ≡ id_text_of (id_of_number (id_number tag second)) }
     ensures { first ≡ second }
+{}
+
+/// The link to an object is read as its id.
+pub fn link_is_read(endpoint: &[u8], kind: Kind, id: &Id)
+    ensures { read_ref_of kind (link_of endpoint.now kind id.now) ≡ Some id.now }
 {
+    let _number = id.0;
 }

@@ -7,6 +7,8 @@ mod id;
 pub mod laws;
 mod link;
 mod offset;
+#[cfg(test)]
+mod tests;
 mod time;
 
 pub use id::{id_text, read_id};

@@ -1,6 +1,7 @@
 // Links to secrets, containers and orders.
-ghost use Rattle.std.specs.Prelude.{◌≡◌, IfOk};
-ghost use Rattle.kms_text.specs.Link.{kind_path, link_of, read_ref_of};
+ghost use Rattle.std.specs.Prelude.{◌≡◌, IfOk, MatchOption};
+ghost use Rattle.kms_world.specs.declared.id.Id.{Id};
+ghost use Rattle.kms_text.specs.Link.{kind_path, link_of, read_ref_of, IsLink};
 
 use crate::{id_text, read_id};
 use kms_world::{Id, NoMemory, Text};
@@ -42,7 +43,8 @@ pub fn ref_text(alloc: Global, endpoint: &str, kind: Kind, id: Id) -> Result<Tex
 /// id. `None` exactly where the text is no such link. Takes no memory.
 #[tactic(auto, unfolding(crate::specs::Link::read_ref_of))]
 pub fn read_ref(kind: Kind, text: &[u8]) -> Option<Id>
-    ensures { result ≡ read_ref_of kind text.now }
+    ensures value { result ≡ read_ref_of kind text.now }
+    ensures grammar { MatchOption result ((id : Id) → ¬ IsLink kind text.now id) (IsLink kind text.now) }
 {
     let (front, id) = text.split_at(text.len().saturating_sub(36));
     if front.ends_with(kind.path().as_bytes()) {

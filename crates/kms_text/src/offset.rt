@@ -47,10 +47,18 @@ pub fn read_offset(text: &[u8]) -> Option<Offset>
         return Some(Offset::Ahead(0));
     }
     if is_of_form(b"+00:00", text) {
-        return Some(Offset::Ahead(second_of_day(two_digits_at(text, 1), two_digits_at(text, 4), 0)?));
+        return Some(Offset::Ahead(second_of_day(
+            two_digits_at(text, 1),
+            two_digits_at(text, 4),
+            0,
+        )?));
     }
     if is_of_form(b"-00:00", text) {
-        return Some(Offset::Behind(second_of_day(two_digits_at(text, 1), two_digits_at(text, 4), 0)?));
+        return Some(Offset::Behind(second_of_day(
+            two_digits_at(text, 1),
+            two_digits_at(text, 4),
+            0,
+        )?));
     }
     None
 }
