@@ -1,0 +1,11 @@
+pub mod Allow
+pub mod Date
+pub mod Forms
+pub mod Found
+pub mod ReadId
+pub mod ReaderFields
+pub mod Reading
+pub mod Reads
+pub mod Reply
+pub mod Spelled
+pub mod Stream

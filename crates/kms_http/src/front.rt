@@ -1,0 +1,73 @@
+// What stands at the front of a stream.
+ghost use Rattle.std.specs.Prelude.{◌≡◌, ◌≤◌, IfOk, length, drop, Some};
+ghost use Rattle.kms_http.specs.Forms as spec;
+ghost use Rattle.kms_http.specs.Stream as stream;
+ghost use Rattle.kms_http.specs.Found.{IsFound, IsPosted};
+
+use crate::body::{name_in, post_secret};
+use crate::form::form_of;
+use crate::head::head_len;
+use crate::request::{Form, Request};
+use kms_world::{Caller, NoMemory, Op};
+use std::alloc::Global;
+
+/// What stands at the front of a stream; of a whole message also how many bytes it has.
+#[derive(Drop)]
+pub enum Found {
+    Whole(Request, usize),
+    Bad,
+    Part,
+}
+
+/// A head has at most so many bytes.
+const HEAD_LIMIT: usize = 512;
+
+// What a body of this caller gives, with so many bytes of head and body.
+fn posted(alloc: Global, caller: Caller, body: &[u8], used: usize) -> Result<Found, NoMemory>
+    ensures { IfOk result (λ f. IsPosted f caller (spec.name_in body.now) used) }
+{
+    match name_in(body) {
+        None => Ok(Found::Bad),
+        Some(name) => {
+            let op = post_secret(alloc, name)?;
+            Ok(Found::Whole(Request { caller, op }, used))
+        }
+    }
+}
+
+fn with_form(alloc: Global, form: Form, bytes: &[u8], head: usize) -> Result<Found, NoMemory>
+    requires { head ≤ length bytes.now }
+    ensures { IfOk result (λ f. IsFound f bytes.now (stream.with_form (Some form) (drop head bytes.now))) }
+{
+    match form {
+        Form::Post(caller, size) => {
+            if bytes.len() - head < size {
+                return Ok(Found::Part);
+            }
+            posted(alloc, caller, &bytes[head..head + size], head + size)
+        }
+        Form::Get(caller, id) => {
+            let op = Op::GetSecret { id: Some(id) };
+            Ok(Found::Whole(Request { caller, op }, head))
+        }
+    }
+}
+
+/// What stands at the front of the bytes of a stream.
+#[tactic(auto, unfolding(crate::specs::Stream::front))]
+pub fn read_front(alloc: Global, bytes: &[u8]) -> Result<Found, NoMemory>
+    ensures { IfOk result (λ f. IsFound f bytes.now (stream.front bytes.now)) }
+{
+    let searched = &bytes[..bytes.len().min(HEAD_LIMIT)];
+    let Some(head) = head_len(searched) else {
+        return Ok(if bytes.len() < HEAD_LIMIT {
+            Found::Part
+        } else {
+            Found::Bad
+        });
+    };
+    match form_of(&bytes[..head]) {
+        None => Ok(Found::Bad),
+        Some(form) => with_form(alloc, form, bytes, head),
+    }
+}

@@ -1,0 +1,93 @@
+// The fields that say who calls.
+ghost use Rattle.std.specs.Prelude.{◌≡◌, ◌≤◌, length, option_map};
+ghost use Rattle.kms_world.specs.Name.{is_name_byte};
+ghost use Rattle.kms_http.specs.Forms as spec;
+
+use crate::past::past;
+use kms_world::{Caller, Name, Roles};
+
+fn is_name_byte(b: u8) -> bool
+    ensures { result ≡ is_name_byte b }
+{
+    (b'A' <= b && b <= b'Z')
+        || (b'a' <= b && b <= b'z')
+        || (b'0' <= b && b <= b'9')
+        || b == b'-'
+        || b == b'_'
+        || b == b'.'
+}
+
+fn name_len(bytes: &[u8]) -> usize
+    ensures value { result ≡ spec.run_len is_name_byte bytes.now }
+    ensures bound { result ≤ length bytes.now }
+{
+    let mut count = 0;
+    let mut rest = bytes;
+    while let [b, after @ ..] = rest {
+        if !is_name_byte(*b) {
+            break;
+        }
+        count += 1;
+        rest = after;
+    }
+    count
+}
+
+#[tactic(auto, unfolding(crate::specs::Forms::name_at))]
+fn name_at(bytes: &[u8]) -> Option<(Name, &[u8])>
+    ensures { option_map (λ x. (x.0, x.1.now)) result ≡ spec.name_at bytes.now }
+{
+    let n = name_len(bytes);
+    let name = Name::read(&bytes[..n])?;
+    Some((name, &bytes[n..]))
+}
+
+const CREATOR: Roles = Roles {
+    admin: false,
+    creator: true,
+    observer: false,
+    audit: false,
+    service_admin: false,
+};
+
+const USER_FIELD: &[u8] = b"\r\nX-User-Id: ";
+
+/// The caller whose project stands at the front and whose user stands in the next field, and the bytes behind them.
+/// None where there is no such caller.
+#[tactic(auto, unfolding(crate::specs::Forms::caller_at))]
+pub fn caller_at(bytes: &[u8]) -> Option<(Caller, &[u8])>
+    ensures { option_map (λ x. (x.0, x.1.now)) result ≡ spec.caller_at bytes.now }
+{
+    let Some((project, rest)) = name_at(bytes) else {
+        return None;
+    };
+    let rest = past(USER_FIELD, rest)?;
+    let Some((user, rest)) = name_at(rest) else {
+        return None;
+    };
+    let roles = CREATOR;
+    Some((
+        Caller {
+            project,
+            user,
+            roles,
+        },
+        rest,
+    ))
+}
+
+const GET_FIELDS: &[u8] = b"\r\nX-Roles: creator\r\n\r\n";
+
+/// The caller at the end of a head without a body.
+#[tactic(auto, unfolding(crate::specs::Forms::caller_at_end))]
+pub fn caller_at_end(bytes: &[u8]) -> Option<Caller>
+    ensures { result ≡ spec.caller_at_end bytes.now }
+{
+    let Some((caller, rest)) = caller_at(bytes) else {
+        return None;
+    };
+    match past(GET_FIELDS, rest)? {
+        [] => Some(caller),
+        [_, ..] => None,
+    }
+}

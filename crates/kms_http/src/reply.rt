@@ -1,0 +1,118 @@
+// Printed replies.
+ghost use Rattle.std.specs.Prelude.{◌≡◌, ◌<◌, ◌++◌, IfOk, OnOk, is_some, true, unwrap_or, []};
+ghost use Rattle.std.specs.Fmt.{decimal};
+ghost use Rattle.http.specs.StatusCode.{reason_phrase, code_digits};
+ghost use Rattle.kms_http.specs.Reply as spec;
+ghost use Rattle.kms_http.specs.Spelled.{field};
+ghost use Rattle.kms_http.specs.Date.{date_of};
+
+use crate::allow::put_allow;
+use crate::date::date_text;
+use http::StatusCode;
+use kms_world::{Allow, Bytes, Media2, NoMemory, Reply};
+use std::alloc::Global;
+
+fn put_field(out: &mut Bytes, name: &[u8], value: &[u8]) -> Result<(), NoMemory>
+    ensures { OnOk result (out.new ≡ out.old ++ field name.now value.now) }
+{
+    out.push_all(name)?;
+    out.push_all(b": ")?;
+    out.push_all(value)?;
+    out.push_all(b"\r\n")?;
+    Ok(())
+}
+
+fn put_status(out: &mut Bytes, status: u16) -> Result<(), NoMemory>
+    requires { is_some (reason_phrase status) ≡ true }
+    ensures { OnOk result (out.new ≡ out.old ++ spec.status_line status) }
+{
+    let code = StatusCode::from_u16(status).unwrap();
+    out.push_all(b"HTTP/1.1 ")?;
+    out.push_all(code.as_str().as_bytes())?;
+    out.push_all(b" ")?;
+    out.push_all(code.canonical_reason().unwrap_or("").as_bytes())?;
+    out.push_all(b"\r\n")?;
+    Ok(())
+}
+
+fn media_text(media: Media2) -> &'static [u8]
+    ensures { result.now ≡ spec.media_text media }
+{
+    match media {
+        Media2::Json => b"application/json",
+        Media2::TextPlain => b"text/plain",
+        Media2::OctetStream => b"application/octet-stream",
+    }
+}
+
+fn put_media(out: &mut Bytes, media: Option<Media2>) -> Result<(), NoMemory>
+    ensures { OnOk result (out.new ≡ out.old ++ spec.media_field media) }
+{
+    if let Some(media) = media {
+        put_field(out, b"Content-Type", media_text(media))?;
+    }
+    Ok(())
+}
+
+fn put_length(alloc: Global, out: &mut Bytes, status: u16, size: usize) -> Result<(), NoMemory>
+    ensures { OnOk result (out.new ≡ out.old ++ spec.length_field status size) }
+{
+    if status != 204 {
+        let size = size.to_string(alloc)?;
+        put_field(out, b"Content-Length", size.as_bytes())?;
+    }
+    Ok(())
+}
+
+fn put_allowed(out: &mut Bytes, status: u16, allow: Option<Allow>) -> Result<(), NoMemory>
+    ensures { OnOk result (out.new ≡ out.old ++ spec.allow_field status allow) }
+{
+    if status == 405 {
+        out.push_all(b"Allow: ")?;
+        if let Some(allow) = allow {
+            put_allow(out, allow)?;
+        }
+        out.push_all(b"\r\n")?;
+    }
+    Ok(())
+}
+
+fn put_challenge(out: &mut Bytes, status: u16) -> Result<(), NoMemory>
+    ensures { OnOk result (out.new ≡ out.old ++ spec.challenge_field status) }
+{
+    if status == 401 {
+        put_field(out, b"WWW-Authenticate", b"Keystone")?;
+    }
+    Ok(())
+}
+
+fn put_close(out: &mut Bytes, close: bool) -> Result<(), NoMemory>
+    ensures { OnOk result (out.new ≡ out.old ++ spec.close_field close) }
+{
+    if close {
+        put_field(out, b"Connection", b"close")?;
+    }
+    Ok(())
+}
+
+/// The bytes of a reply, dated with this second since 1970, and saying that the line ends where `close` (RFC 9112
+/// sections 2.1 and 4).
+#[tactic(auto, using(std::proofs::lemmas::List::append_assoc), unfolding(crate::specs::Reply::printed))]
+pub fn print(alloc: Global, reply: &Reply, moment: u64, close: bool) -> Result<Bytes, NoMemory>
+    requires time { moment < 253402300800 }
+    requires status { is_some (reason_phrase reply.now.status) ≡ true }
+    ensures { IfOk result (λ b. b ≡ spec.printed reply.now moment close) }
+{
+    let body = reply.body.as_slice();
+    let mut out = Bytes::new(alloc);
+    put_status(&mut out, reply.status)?;
+    put_field(&mut out, b"Date", &date_text(moment))?;
+    put_media(&mut out, reply.media)?;
+    put_length(alloc, &mut out, reply.status, body.len())?;
+    put_allowed(&mut out, reply.status, reply.allow)?;
+    put_challenge(&mut out, reply.status)?;
+    put_close(&mut out, close)?;
+    out.push_all(b"\r\n")?;
+    out.push_all(body)?;
+    Ok(out)
+}
