@@ -8,5 +8,5 @@ abbrev pub id_of_bytes : List ℕ → Id
 id_of_bytes bytes = record { 0 = from_be_bytes w128 bytes }
 
 -- the id that a text of the form 8-4-4-4-12 shows, in either case
-abbrev pub read_id_of : List ℕ → Option Id
+unfoldable pub read_id_of : List ℕ → Option Id
 read_id_of text = option_map id_of_bytes (parsed_hyphenated text)

@@ -1,5 +1,5 @@
 -- The messages of a stream, as functions of all its bytes (RFC 9112 section 2.2).
-use Rattle.std.specs.Prelude.{ℕ, zero, suc, ◌+◌, List, Bool, true, ◌||◌, ◌==◌, nat_lt, length, take, drop, Option, Some, None, if◌then◌else◌}
+use Rattle.std.specs.Prelude.{ℕ, zero, suc, ◌+◌, List, Bool, true, false, ◌||◌, ◌==◌, nat_lt, length, take, drop, Option, Some, None, if◌then◌else◌}
 use Rattle.std.specs.Option.{option_and_then}
 use Rattle.kms_world.specs.declared.caller.Caller.{Caller}
 use Rattle.kms_http.specs.declared.request.Request.{Request}

@@ -5,6 +5,8 @@ ghost use Rattle.kms_http.specs.ReadId.{read_id_of};
 use kms_world::Id;
 use uuid::Uuid;
 
+/// The id that 36 characters show (RFC 9562 section 4). None where they show none.
+#[tactic(auto, unfolding(crate::specs::ReadId::read_id_of))]
 pub fn read_id(text: &[u8]) -> Option<Id>
     ensures { result ≡ read_id_of text.now }
 {
