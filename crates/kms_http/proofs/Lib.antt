@@ -1,6 +1,7 @@
+pub mod AllowLaws
 pub mod DateLaws
 pub mod FormLaws
 pub mod FrontLaws
 pub mod HeadLaws
-pub mod IdLaws
 pub mod PastLaws
+pub mod StatusLaws

@@ -14,7 +14,7 @@ use Rattle.kms_world.specs.Name.{is_name, is_name_byte}
 use Rattle.kms_http.specs.declared.request.Request.{Request}
 use Rattle.kms_http.specs.declared.request.Form.{Form}
 use Rattle.kms_http.specs.declared.request.Form.TheVariants.{Post, Get}
-use Rattle.kms_http.specs.ReadId.{read_id_of}
+use Rattle.kms_text.specs.IdText.{read_id_of}
 
 infixl 10 ◌>>=◌
 abbrev pub ◌>>=◌ : {A B : Type 0} → Option A → (A → Option B) → Option B

@@ -2,7 +2,6 @@ pub mod Allow
 pub mod Date
 pub mod Forms
 pub mod Found
-pub mod ReadId
 pub mod ReaderFields
 pub mod Reading
 pub mod Reads

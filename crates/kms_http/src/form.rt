@@ -4,9 +4,9 @@ ghost use Rattle.kms_http.specs.Forms as spec;
 
 use crate::identity::{caller_at, caller_at_end};
 use crate::past::past;
-use crate::read_id::read_id;
 use crate::request::Form;
 use crate::size::size_at_end;
+use kms_text::read_id;
 use kms_world::Id;
 
 const POST_LINE: &[u8] = b"POST /v1/secrets HTTP/1.1\r\nX-Project-Id: ";

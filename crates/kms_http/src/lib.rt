@@ -11,7 +11,6 @@ mod head;
 mod identity;
 mod past;
 mod read;
-mod read_id;
 mod reader;
 mod reply;
 mod request;
