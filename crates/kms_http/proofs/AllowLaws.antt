@@ -20,11 +20,11 @@ comma_list-cons word (next ∷ words) = append_assoc word (codes ", ") (comma_li
 
 later_items : (xs : List (Bool × List ℕ)) → items false xs ≡ continued (chosen xs)
 later_items [] = refl
-later_items (x ∷ xs) = step x.0
+later_items (x ∷ xs) = step x.0 (later_items xs)
   where
-    step : (b : Bool) → item false b x.1 ++ items (false && not b) xs ≡ continued (cond b (x.1 ∷ chosen xs) (chosen xs))
-    step true = rw (later_items xs, comma_list-cons) (append_assoc (codes ", ") x.1 (continued (chosen xs)))
-    step false = later_items xs
+    step : (b : Bool) → items false xs ≡ continued (chosen xs) → item false b x.1 ++ items (false && not b) xs ≡ continued (cond b (x.1 ∷ chosen xs) (chosen xs))
+    step true e = rw (e, comma_list-cons) (append_assoc (codes ", ") x.1 (continued (chosen xs)))
+    step false e = e
 
 all_items : (xs : List (Bool × List ℕ)) → items true xs ≡ comma_list (chosen xs)
 all_items [] = refl

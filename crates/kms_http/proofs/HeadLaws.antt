@@ -1,5 +1,5 @@
 -- The end of a head.
-use Rattle.std.proofs.Common.{◌≡◌, ℕ, zero, suc, ◌+◌, ◌≤◌, List, [], ◌∷◌, ◌++◌, length, take, Option, Some, None, is_some, option_map, cond, refl, ap, arith}
+use Rattle.std.proofs.Common.{◌≡◌, ℕ, zero, suc, ◌+◌, ◌≤◌, List, [], ◌∷◌, ◌++◌, length, take, Option, Some, None, is_some, option_map, IfSome, cond, refl, ap, arith}
 use Rattle.kms_http.specs.Forms.{past, head_len, empty_line}
 use Rattle.kms_http.proofs.PastLaws.{some_same, past_length, past-more, past-none}
 
@@ -49,3 +49,8 @@ pub head-more : (limit : ℕ) (bytes more : List ℕ) (n : ℕ) → head_len (ta
 head-more limit bytes more n e =
     let (rest, onto) = take-onto limit bytes more in
     rw onto (head_len-more (take limit bytes) rest n e)
+
+-- what a value has, it has under a weaker fact too
+pub if_some : (o : Option ℕ) (P Q : ℕ → Type 0) → ((n : ℕ) → P n → Q n) → IfSome o P → IfSome o Q
+if_some None P Q f h = h
+if_some (Some n) P Q f h = f n h

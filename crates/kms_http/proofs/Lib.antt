@@ -5,3 +5,4 @@ pub mod FrontLaws
 pub mod HeadLaws
 pub mod PastLaws
 pub mod StatusLaws
+pub mod StreamLaws

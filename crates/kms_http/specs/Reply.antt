@@ -18,9 +18,13 @@ media_text Json = codes "application/json"
 media_text TextPlain = codes "text/plain"
 media_text OctetStream = codes "application/octet-stream"
 
+-- the phrase of a status in the registry of http
+unfoldable pub reason_of : ℕ → List ℕ
+reason_of status = unwrap_or (reason_phrase status) []
+
 -- `HTTP/1.1 201 Created`
 unfoldable pub status_line : ℕ → List ℕ
-status_line status = with_crlf (codes "HTTP/1.1 " ++ code_digits status ++ codes " " ++ unwrap_or (reason_phrase status) [])
+status_line status = with_crlf (codes "HTTP/1.1 " ++ code_digits status ++ codes " " ++ reason_of status)
 
 -- the type of the body, where it has one
 abbrev pub media_field : Option Media2 → List ℕ

@@ -1,12 +1,12 @@
 // What stands at the front of a stream.
-ghost use Rattle.std.specs.Prelude.{◌≡◌, ◌≤◌, IfOk, length, drop, Some};
+ghost use Rattle.std.specs.Prelude.{◌≡◌, ◌≤◌, IfOk, length, drop, Some, None};
 ghost use Rattle.kms_http.specs.Forms as spec;
 ghost use Rattle.kms_http.specs.Stream as stream;
 ghost use Rattle.kms_http.specs.Found.{IsFound, IsPosted};
 
 use crate::body::{name_in, post_secret};
 use crate::form::form_of;
-use crate::head::head_len;
+use crate::head::{HEAD_LIMIT, head_at};
 use crate::request::{Form, Request};
 use kms_world::{Caller, NoMemory, Op};
 use std::alloc::Global;
@@ -18,9 +18,6 @@ pub enum Found {
     Bad,
     Part,
 }
-
-/// A head has at most so many bytes.
-const HEAD_LIMIT: usize = 512;
 
 // What a body of this caller gives, with so many bytes of head and body.
 fn posted(alloc: Global, caller: Caller, body: &[u8], used: usize) -> Result<Found, NoMemory>
@@ -53,21 +50,27 @@ fn with_form(alloc: Global, form: Form, bytes: &[u8], head: usize) -> Result<Fou
     }
 }
 
+// What bytes are whose head has no end.
+fn headless(bytes: &[u8]) -> Found
+    ensures { IsFound result bytes.now (stream.with_head None bytes.now) }
+{
+    if bytes.len() < HEAD_LIMIT {
+        Found::Part
+    } else {
+        Found::Bad
+    }
+}
+
 /// What stands at the front of the bytes of a stream.
 #[tactic(auto, unfolding(crate::specs::Stream::front))]
 pub fn read_front(alloc: Global, bytes: &[u8]) -> Result<Found, NoMemory>
     ensures { IfOk result (λ f. IsFound f bytes.now (stream.front bytes.now)) }
 {
-    let searched = &bytes[..bytes.len().min(HEAD_LIMIT)];
-    let Some(head) = head_len(searched) else {
-        return Ok(if bytes.len() < HEAD_LIMIT {
-            Found::Part
-        } else {
-            Found::Bad
-        });
-    };
-    match form_of(&bytes[..head]) {
-        None => Ok(Found::Bad),
-        Some(form) => with_form(alloc, form, bytes, head),
+    match head_at(bytes) {
+        None => Ok(headless(bytes)),
+        Some(head) => match form_of(&bytes[..head]) {
+            None => Ok(Found::Bad),
+            Some(form) => with_form(alloc, form, bytes, head),
+        },
     }
 }

@@ -1,5 +1,5 @@
 // The end of a head.
-ghost use Rattle.std.specs.Prelude.{◌≡◌, ◌≤◌, IfSome, length};
+ghost use Rattle.std.specs.Prelude.{◌≡◌, ◌≤◌, IfSome, length, take};
 ghost use Rattle.kms_http.specs.Forms as spec;
 
 use crate::past::past;
@@ -7,7 +7,7 @@ use crate::past::past;
 /// How many bytes the head has: those up to and with the first CR LF CR LF (RFC 9112 section 2.1). None where there is
 /// none.
 #[tactic(auto, using(crate::proofs::PastLaws::past_length), unfolding(crate::specs::Forms::head_len))]
-pub fn head_len(bytes: &[u8]) -> Option<usize>
+fn head_len(bytes: &[u8]) -> Option<usize>
     ensures value { result ≡ spec.head_len bytes.now }
     ensures bound { IfSome result (λ n. (4 ≤ n) × (n ≤ length bytes.now)) }
 {
@@ -21,4 +21,20 @@ pub fn head_len(bytes: &[u8]) -> Option<usize>
         rest = more;
     }
     None
+}
+
+/// A head has at most so many bytes.
+pub const HEAD_LIMIT: usize = 512;
+
+/// How many bytes the head has, where the first 512 bytes hold a whole one.
+#[tactic(auto, using(std::proofs::lemmas::List::take_all))]
+pub fn head_at(bytes: &[u8]) -> Option<usize>
+    ensures value { result ≡ spec.head_len (take spec.head_limit bytes.now) }
+    ensures bound { IfSome result (λ n. n ≤ length bytes.now) }
+{
+    if bytes.len() < HEAD_LIMIT {
+        head_len(bytes)
+    } else {
+        head_len(&bytes[..HEAD_LIMIT])
+    }
 }

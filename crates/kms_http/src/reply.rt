@@ -1,10 +1,8 @@
 // Printed replies.
-ghost use Rattle.std.specs.Prelude.{◌≡◌, ◌<◌, ◌++◌, IfOk, OnOk, is_some, true, unwrap_or, []};
-ghost use Rattle.std.specs.Fmt.{decimal};
-ghost use Rattle.http.specs.StatusCode.{reason_phrase, code_digits};
+ghost use Rattle.std.specs.Prelude.{◌≡◌, ◌<◌, ◌++◌, IfOk, OnOk, is_some, true};
+ghost use Rattle.http.specs.StatusCode.{reason_phrase};
 ghost use Rattle.kms_http.specs.Reply as spec;
 ghost use Rattle.kms_http.specs.Spelled.{field};
-ghost use Rattle.kms_http.specs.Date.{date_of};
 
 use crate::allow::put_allow;
 use crate::date::date_text;
@@ -22,15 +20,32 @@ fn put_field(out: &mut Bytes, name: &[u8], value: &[u8]) -> Result<(), NoMemory>
     Ok(())
 }
 
+fn code_of(status: u16) -> StatusCode
+    requires { is_some (reason_phrase status) ≡ true }
+    ensures { result ≡ status }
+{
+    StatusCode::from_u16(status).unwrap()
+}
+
+#[tactic(auto, unfolding(crate::specs::Reply::reason_of))]
+fn reason_of(code: StatusCode) -> &'static str
+    ensures { result.now ≡ spec.reason_of code }
+{
+    match code.canonical_reason() {
+        Some(reason) => reason,
+        None => "",
+    }
+}
+
 fn put_status(out: &mut Bytes, status: u16) -> Result<(), NoMemory>
     requires { is_some (reason_phrase status) ≡ true }
     ensures { OnOk result (out.new ≡ out.old ++ spec.status_line status) }
 {
-    let code = StatusCode::from_u16(status).unwrap();
+    let code = code_of(status);
     out.push_all(b"HTTP/1.1 ")?;
     out.push_all(code.as_str().as_bytes())?;
     out.push_all(b" ")?;
-    out.push_all(code.canonical_reason().unwrap_or("").as_bytes())?;
+    out.push_all(reason_of(code).as_bytes())?;
     out.push_all(b"\r\n")?;
     Ok(())
 }

@@ -1,11 +1,9 @@
-use Rattle.std.proofs.Common.{◌≡◌, sym}
+use Rattle.std.proofs.Common.{append_assoc}
 use Rattle.kms_http.specs.Reply.{status_line}
-use Rattle.kms_http.proofs.StatusLaws.{is_code}
 use Rattle.kms_http.proofs.reply.put_status.Goals as goal
-
-pub unwrap-code-requires : goal.unwrap-code-requires
-unwrap-code-requires c = ?
 
 pub returns : goal.returns
 unfolding status_line
-returns c = ?
+returns c =
+    rw (c.in_ok-push_all-5.ensures.ok, c.in_ok-push_all-4.ensures.ok, c.in_ok-push_all-3.ensures.ok, c.in_ok-push_all-2.ensures.ok, c.in_ok-push_all.ensures.ok, c.as_bytes.ensures.value, c.as_str.ensures, c.as_bytes-2.ensures.value, c.reason_of.ensures, c.code_of-code.ensures)
+    (simp append_assoc)
