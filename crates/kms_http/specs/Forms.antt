@@ -1,7 +1,7 @@
 -- The two forms of a message: what each part of it is, read from the front. A step gives what it read and the bytes
 -- after it, and None where they don't begin with such a thing.
 use Rattle.std.specs.Prelude.{ℕ, ◌+◌, ◌-◌, ◌*◌, List, [], ◌∷◌, ◌++◌, length, take, drop, Bool, true, false, not, ◌&&◌, ◌==◌, nat_le, nat_lt, Option, Some, None, Result, Ok, is_some, option_map, if◌then◌else◌, codes}
-use Rattle.std.specs.List.{list_all}
+use Rattle.std.specs.List.{list_all, prefix_len}
 use Rattle.std.specs.Option.{option_and_then}
 use Rattle.kms_world.specs.declared.id.Id.{Id}
 use Rattle.kms_world.specs.declared.caller.Caller.{Caller}
@@ -41,15 +41,10 @@ unfoldable pub head_len : List ℕ → Option ℕ
 head_len [] = None
 head_len (b ∷ bytes) = if is_some (past empty_line (b ∷ bytes)) then Some 4 else option_map (λ n. n + 1) (head_len bytes)
 
--- how many bytes at the front pass a test
-abbrev pub run_len : (ℕ → Bool) → List ℕ → ℕ
-run_len p [] = 0
-run_len p (b ∷ bytes) = if p b then run_len p bytes + 1 else 0
-
 -- a name of a project or a user, up to the first byte that no name has
 unfoldable pub name_at : List ℕ → Option (List ℕ × List ℕ)
 name_at bytes =
-    let n = run_len is_name_byte bytes in
+    let n = prefix_len is_name_byte bytes in
     if is_name (take n bytes) then Some (take n bytes, drop n bytes) else None
 
 abbrev pub is_digit : ℕ → Bool
@@ -67,7 +62,7 @@ is_size digits value = nat_le digits 3 && nat_le 12 value && nat_le value 266
 -- the size of a body, without leading zero
 unfoldable pub size_at : List ℕ → Option (ℕ × List ℕ)
 size_at bytes =
-    let n = run_len is_digit bytes in
+    let n = prefix_len is_digit bytes in
     let value = digits_value 0 (take n bytes) in
     if is_size n value && not (is_some (past (48 ∷ []) bytes)) then Some (value, drop n bytes) else None
 

@@ -1,5 +1,6 @@
 // The fields that say who calls.
 ghost use Rattle.std.specs.Prelude.{◌≡◌, ◌≤◌, length, option_map};
+ghost use Rattle.std.specs.List.{prefix_len};
 ghost use Rattle.kms_world.specs.Name.{is_name_byte};
 ghost use Rattle.kms_http.specs.Forms as spec;
 
@@ -18,7 +19,7 @@ fn is_name_byte(b: u8) -> bool
 }
 
 fn name_len(bytes: &[u8]) -> usize
-    ensures value { result ≡ spec.run_len is_name_byte bytes.now }
+    ensures value { result ≡ prefix_len is_name_byte bytes.now }
     ensures bound { result ≤ length bytes.now }
 {
     let mut count = 0;

@@ -15,6 +15,8 @@ mod reader;
 mod reply;
 mod request;
 mod size;
+#[cfg(test)]
+mod tests;
 
 pub use fault::{FaultReply, fault_reply};
 pub use read::Read;

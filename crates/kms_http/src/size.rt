@@ -1,5 +1,6 @@
 // The size of a body (RFC 9110 section 8.6).
 ghost use Rattle.std.specs.Prelude.{◌≡◌, ◌≤◌, ◌-◌, IfSome, length, option_map};
+ghost use Rattle.std.specs.List.{prefix_len};
 ghost use Rattle.kms_http.specs.Forms as spec;
 
 use crate::past::past;
@@ -11,7 +12,7 @@ fn is_digit(b: u8) -> bool
 }
 
 fn digit_len(bytes: &[u8]) -> usize
-    ensures value { result ≡ spec.run_len spec.is_digit bytes.now }
+    ensures value { result ≡ prefix_len spec.is_digit bytes.now }
     ensures bound { result ≤ length bytes.now }
 {
     let mut count = 0;
