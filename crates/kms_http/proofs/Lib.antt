@@ -1,8 +1,13 @@
 pub mod AllowLaws
+pub mod CalmLaws
 pub mod DateLaws
 pub mod FormLaws
 pub mod FrontLaws
 pub mod HeadLaws
+pub mod LengthLaws
 pub mod PastLaws
+pub mod ReadLaws
+pub mod SelfLaws
+pub mod SizeLaws
 pub mod StatusLaws
 pub mod StreamLaws
