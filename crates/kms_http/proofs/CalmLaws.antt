@@ -5,6 +5,7 @@ use Rattle.std.proofs.lemmas.Bool.Decides.{nat_tests}
 use Rattle.kms_world.specs.Name.{is_name, is_name_byte}
 use Rattle.kms_http.specs.Forms.{past, head_len, empty_line, is_digit}
 use Rattle.kms_http.proofs.FormLaws.{both}
+use Rattle.kms_http.proofs.IdLaws.{is_id_byte}
 
 -- behind a CR stands something that is no start of an empty line, whatever follows
 abbrev pub breaks : List ℕ → Bool
@@ -74,3 +75,9 @@ calm-name name h = calm-all is_name_byte name_byte-apart name (both _ _ h).1
 
 pub calm-digits : (digits : List ℕ) → list_all is_digit digits ≡ true → calm digits ≡ true
 calm-digits digits h = calm-all is_digit digit-apart digits h
+
+id_byte-apart : (b : ℕ) → is_id_byte b ≡ true → nat_eq 13 b ≡ false
+id_byte-apart b h = grind (arith, nat_tests)
+
+pub calm-id : (text : List ℕ) → list_all is_id_byte text ≡ true → calm text ≡ true
+calm-id text h = calm-all is_id_byte id_byte-apart text h

@@ -37,7 +37,7 @@ head_len-more (b ∷ bytes) more n e = step (λ m h. head_len-more bytes more m 
         rw (past-none empty_line (b ∷ bytes) more long here, shorter m e) (ap Some k)
 
 -- more bytes stand behind what was taken
-take-onto : (limit : ℕ) (bytes more : List ℕ) → (rest : List ℕ) × (take limit (bytes ++ more) ≡ take limit bytes ++ rest)
+pub take-onto : (limit : ℕ) (bytes more : List ℕ) → (rest : List ℕ) × (take limit (bytes ++ more) ≡ take limit bytes ++ rest)
 take-onto zero bytes more = ([], refl)
 take-onto (suc limit) [] more = (take (suc limit) more, refl)
 take-onto (suc limit) (b ∷ bytes) more =

@@ -4,10 +4,13 @@ pub mod DateLaws
 pub mod FormLaws
 pub mod FrontLaws
 pub mod HeadLaws
+pub mod IdLaws
 pub mod LengthLaws
 pub mod PastLaws
 pub mod ReadLaws
+pub mod ReplyLaws
 pub mod SelfLaws
 pub mod SizeLaws
+pub mod SpelledLaws
 pub mod StatusLaws
 pub mod StreamLaws

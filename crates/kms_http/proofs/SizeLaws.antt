@@ -101,3 +101,16 @@ text_is (x ∷ xs) size s =
     first : (b : Bool) → is_some (cond b (Some (xs ++ [])) None) ≡ false → b ≡ false
     first true h = absurd (cc)
     first false h = refl
+
+-- a size has digits
+pub digits_some : (text : List ℕ) (size : ℕ) → digits_value 0 text ≡ size → 12 ≤ size → 1 ≤ length text
+digits_some [] size value low = absurd (omega arith)
+digits_some (x ∷ xs) size value low = omega arith
+
+-- what follows the digits doesn't decide whether the first is 0
+pub lead_any : (text rest other : List ℕ) → 1 ≤ length text → is_some (past (48 ∷ []) (text ++ rest)) ≡ false → is_some (past (48 ∷ []) (text ++ other)) ≡ false
+unfolding past
+lead_any [] rest other some h = absurd (omega arith)
+lead_any (x ∷ xs) rest other some h =
+    elim (nat_eq 48 x) as (λ b. is_some (cond b (Some (xs ++ rest)) None) ≡ false → is_some (cond b (Some (xs ++ other)) None) ≡ false)
+    [ true ↦ λ k. absurd (cc) | false ↦ λ k. refl ] h
