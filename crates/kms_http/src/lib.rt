@@ -9,6 +9,7 @@ mod form;
 mod front;
 mod head;
 mod identity;
+pub mod laws;
 mod past;
 mod read;
 mod reader;
