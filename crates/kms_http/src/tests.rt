@@ -1,7 +1,8 @@
-ghost use Rattle.std.specs.Prelude.{◌≡◌, ◌<◌, IfOk, length};
+ghost use Rattle.std.specs.Prelude.{◌≡◌, ◌<◌, IfOk, is_some, length, true};
+ghost use Rattle.http.specs.StatusCode.{reason_phrase};
 
-use crate::{FaultReply, Read, Reader, fault_reply, print};
-use kms_world::{Allow, Bytes, Id, Media2, NoMemory, Op, Reply};
+use crate::{FaultReply, Read, Reader, Request, fault_reply, print};
+use kms_world::{Allow, Bytes, Media2, NoMemory, Op, Reply, Roles};
 use std::alloc::{AllocError, Global};
 use std::test::Fail;
 
@@ -12,6 +13,20 @@ const POST: &[u8] =
 // 117 bytes
 const GET: &[u8] =
     b"GET /v1/secrets/01234567-89AB-8cde-8000-00000000000F HTTP/1.1\r\nX-Project-Id: p1\r\nX-User-Id: u.2\r\nX-Roles: creator\r\n\r\n";
+
+const LOWER: &[u8] =
+    b"get /v1/secrets/01234567-89ab-8cde-8000-000000000000 HTTP/1.1\r\nX-Project-Id: p1\r\nX-User-Id: u1\r\nX-Roles: creator\r\n\r\n";
+
+const NO_ID: &[u8] =
+    b"GET /v1/secrets/01234567-89ab-8cde-8000-00000000000g HTTP/1.1\r\nX-Project-Id: p1\r\nX-User-Id: u1\r\nX-Roles: creator\r\n\r\n";
+
+const CREATOR: Roles = Roles {
+    admin: false,
+    creator: true,
+    observer: false,
+    audit: false,
+    service_admin: false,
+};
 
 const HEAD: &[u8] =
     b"POST /v1/secrets HTTP/1.1\r\nX-Project-Id: p1\r\nX-User-Id: u1\r\nX-Roles: creator\r\nContent-Type: application/json\r\nContent-Length: ";
@@ -85,64 +100,59 @@ fn heads(rt: HostRuntime) -> Result<(), Fail> {
     assert_eq!(rt; first(alloc, b"HELLO")?, "more");
     assert_eq!(rt; first(alloc, b"HELLO\r\n\r\n")?, "bad");
     assert_eq!(rt; first(alloc, GET)?, "message");
-    assert_eq!(rt;
-        first(
-            alloc,
-            b"get /v1/secrets/01234567-89ab-8cde-8000-000000000000 HTTP/1.1\r\nX-Project-Id: p1\r\nX-User-Id: u1\r\nX-Roles: creator\r\n\r\n"
-        )?,
-        "bad"
-    );
-    assert_eq!(rt;
-        first(
-            alloc,
-            b"GET /v1/secrets/01234567-89ab-8cde-8000-00000000000g HTTP/1.1\r\nX-Project-Id: p1\r\nX-User-Id: u1\r\nX-Roles: creator\r\n\r\n"
-        )?,
-        "bad"
-    );
+    assert_eq!(rt; first(alloc, LOWER)?, "bad");
+    assert_eq!(rt; first(alloc, NO_ID)?, "bad");
     assert_eq!(rt; first(alloc, &letters(alloc, 511)?)?, "more");
     assert_eq!(rt; first(alloc, &letters(alloc, 512)?)?, "bad");
     Ok(())
 }
 
-// Three messages and a rest, in pieces of one byte.
+// The message that the reader gives next, which doesn't ask that the line ends.
+fn message(reader: &mut Reader) -> Result<Request, Fail> {
+    match reader.next()? {
+        Read::Message {
+            request,
+            close: false,
+        } => Ok(request),
+        _ => Err(Fail::from(NoMemory)),
+    }
+}
+
+// The project, the user, and the name of the new secret.
+fn is_post(request: &Request, project: &[u8], user: &[u8], name: &str) -> bool {
+    let Op::PostSecret { body: Ok(body) } = &request.op else {
+        return false;
+    };
+    let Some(text) = &body.name else {
+        return false;
+    };
+    request.caller.project.as_bytes() == project
+        && request.caller.user.as_bytes() == user
+        && request.caller.roles == CREATOR
+        && text.as_str() == name
+}
+
+fn is_get(request: &Request, user: &[u8], number: u128) -> bool {
+    let Op::GetSecret { id: Some(id) } = &request.op else {
+        return false;
+    };
+    request.caller.user.as_bytes() == user && id.0 == number
+}
+
 #[test]
 fn a_stream(rt: HostRuntime) -> Result<(), Fail> {
-    let alloc = rt.alloc();
-    let mut reader = Reader::new(alloc);
-    for b in POST {
-        assert_eq!(rt; matches!(reader.next()?, Read::More), true);
-        reader.feed(&[*b])?;
-    }
+    let mut reader = Reader::new(rt.alloc());
+    reader.feed(&POST[..100])?;
+    assert!(rt; matches!(reader.next()?, Read::More));
+    reader.feed(&POST[100..])?;
     reader.feed(GET)?;
     reader.feed(b"POST")?;
-    let Read::Message { request, close } = reader.next()? else {
-        return Err(Fail::from(NoMemory));
-    };
-    assert_eq!(rt; close, false);
-    assert_eq!(rt; request.caller.project.as_bytes(), b"p1".as_slice());
-    assert_eq!(rt; request.caller.user.as_bytes(), b"u1".as_slice());
-    assert_eq!(rt; request.caller.roles.creator, true);
-    assert_eq!(rt; request.caller.roles.admin, false);
+    assert!(rt; is_post(&message(&mut reader)?, b"p1", b"u1", "a"));
     assert_eq!(rt; reader.passed(), 144);
-    let Op::PostSecret { body: Ok(body) } = request.op else {
-        return Err(Fail::from(NoMemory));
-    };
-    let Some(name) = body.name else {
-        return Err(Fail::from(NoMemory));
-    };
-    assert_eq!(rt; name.as_str(), "a");
-    let Read::Message { request, close } = reader.next()? else {
-        return Err(Fail::from(NoMemory));
-    };
-    assert_eq!(rt; close, false);
-    assert_eq!(rt; request.caller.user.as_bytes(), b"u.2".as_slice());
-    let Op::GetSecret { id } = request.op else {
-        return Err(Fail::from(NoMemory));
-    };
-    assert_eq!(rt; id, Some(Id(0x0123456789ab_8cde_8000_0000_0000_000f)));
+    assert!(rt; is_get(&message(&mut reader)?, b"u.2", 0x0123456789ab_8cde_8000_0000_0000_000f));
     assert_eq!(rt; reader.passed(), 261);
     assert_eq!(rt; reader.held(), 4);
-    assert_eq!(rt; reader.is_empty(), false);
+    assert!(rt; !reader.is_empty());
     Ok(())
 }
 
@@ -168,61 +178,60 @@ const NONE: Allow = Allow {
     delete: false,
 };
 
+const TIME: u64 = 499_162_800;
+
+fn printed(
+    alloc: Global,
+    status: u16,
+    allow: Allow,
+    body: &[u8],
+    moment: u64,
+    close: bool,
+) -> Result<Bytes, NoMemory>
+    requires status { is_some (reason_phrase status) ≡ true }
+    requires moment { moment < 253402300800 }
+{
+    let body = Bytes::of(alloc, body)?;
+    let media = if status == 201 || status == 404 {
+        Some(Media2::Json)
+    } else {
+        None
+    };
+    let reply = Reply {
+        status,
+        media,
+        allow: Some(allow),
+        body,
+    };
+    print(alloc, &reply, moment, close)
+}
+
 #[test]
 fn printed_replies(rt: HostRuntime) -> Result<(), Fail> {
     let alloc = rt.alloc();
-    let mut reply = Reply {
-        status: 201,
-        media: Some(Media2::Json),
-        allow: None,
-        body: Bytes::of(
-            alloc,
-            b"{\"secret_ref\":\"http://k/v1/secrets/01234567-89ab-8cde-8000-000000000000\"}",
-        )?,
+    let body =
+        b"{\"secret_ref\":\"http://k/v1/secrets/01234567-89ab-8cde-8000-000000000000\"}".as_slice();
+    assert!(rt; printed(alloc, 201, NONE, body, TIME, false)?.as_slice() == CREATED);
+    let body = b"{\"code\":404,\"description\":\"NoObject\",\"title\":\"Not Found\"}".as_slice();
+    assert!(rt; printed(alloc, 404, NONE, body, TIME, true)?.as_slice() == ABSENT);
+    let some = Allow {
+        get: true,
+        put: true,
+        delete: true,
+        ..NONE
     };
-    let text = print(alloc, &reply, 499_162_800, false)?;
-    assert_eq!(rt; text.as_slice(), CREATED);
-    reply.status = 404;
-    reply.body = Bytes::of(
-        alloc,
-        b"{\"code\":404,\"description\":\"NoObject\",\"title\":\"Not Found\"}",
-    )?;
-    let text = print(alloc, &reply, 499_162_800, true)?;
-    assert_eq!(rt; text.as_slice(), ABSENT);
+    assert!(rt; printed(alloc, 405, some, b"x", 0, false)?.as_slice() == WRONG_METHOD);
+    assert!(rt; printed(alloc, 401, some, b"x", 951_782_400, true)?.as_slice() == NO_IDENTITY);
+    assert!(rt; printed(alloc, 204, some, b"", 253_402_300_799, false)?.as_slice() == EMPTY);
     Ok(())
 }
 
 #[test]
-fn fields_of_replies(rt: HostRuntime) -> Result<(), Fail> {
-    let alloc = rt.alloc();
-    let mut reply = Reply {
-        status: 405,
-        media: None,
-        allow: Some(Allow {
-            get: true,
-            put: true,
-            delete: true,
-            ..NONE
-        }),
-        body: Bytes::of(alloc, b"x")?,
-    };
-    let text = print(alloc, &reply, 0, false)?;
-    assert_eq!(rt; text.as_slice(), WRONG_METHOD);
-    reply.status = 401;
-    reply.allow = None;
-    let text = print(alloc, &reply, 951_782_400, true)?;
-    assert_eq!(rt; text.as_slice(), NO_IDENTITY);
-    reply.status = 204;
-    reply.body = Bytes::new(alloc);
-    let text = print(alloc, &reply, 253_402_300_799, false)?;
-    assert_eq!(rt; text.as_slice(), EMPTY);
-    assert_eq!(rt;
-        fault_reply(FaultReply::F3),
-        b"HTTP/1.1 507 Insufficient Storage\r\nContent-Length: 0\r\n\r\n".as_slice()
-    );
-    assert_eq!(rt;
-        fault_reply(FaultReply::F2),
-        b"HTTP/1.1 503 Service Unavailable\r\nContent-Length: 0\r\nRetry-After: 1\r\n\r\n".as_slice()
-    );
-    Ok(())
+fn replies_to_faults(rt: HostRuntime) {
+    let text = b"HTTP/1.1 503 Service Unavailable\r\nContent-Length: 0\r\nConnection: close\r\n\r\n".as_slice();
+    assert!(rt; fault_reply(FaultReply::F1) == text);
+    let text = b"HTTP/1.1 503 Service Unavailable\r\nContent-Length: 0\r\nRetry-After: 1\r\n\r\n".as_slice();
+    assert!(rt; fault_reply(FaultReply::F2) == text);
+    let text = b"HTTP/1.1 507 Insufficient Storage\r\nContent-Length: 0\r\n\r\n".as_slice();
+    assert!(rt; fault_reply(FaultReply::F3) == text);
 }
