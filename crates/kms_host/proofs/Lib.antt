@@ -1,3 +1,6 @@
 pub mod FaultLaws
 pub mod LineLaws
 pub mod Moments
+mod OutputLaws
+mod RecordingLaws
+mod SourceLaws

@@ -1,5 +1,5 @@
 -- What a host tells of its calls.
-use Rattle.std.specs.Prelude.{◌≡◌, ℕ, ◌≤◌, List, ◌∷◌, take, Option, Some, None, Result, Ok, Err}
+use Rattle.std.specs.Prelude.{◌≡◌, ℕ, ◌≤◌, min, List, ◌∷◌, length, take, Option, Some, None, Result, Ok, Err}
 use Rattle.kms_host.specs.Faults.{Rose}
 use Rattle.kms_host.specs.declared.call.Call.{Call}
 
@@ -37,3 +37,8 @@ answer (Err e) = None
 abbrev pub given : {E : Type 0} → List ℕ → Result ℕ E → Option (List ℕ)
 given room (Ok n) = Some (take n room)
 given room (Err e) = None
+
+-- the first n bytes of the room are the first of these, as many as fit
+pub record HasFirst (bytes room : List ℕ) (n : ℕ) : Type 0 where
+  pub count : n ≡ min (length room) (length bytes)
+  pub same : take n room ≡ take n bytes

@@ -4,7 +4,9 @@
 mod bytes;
 mod call;
 mod host;
+mod memory;
 
 pub use bytes::{Bytes, NoMemory};
 pub use call::{Call, Count, Failed};
 pub use host::Host;
+pub use memory::MemoryHost;

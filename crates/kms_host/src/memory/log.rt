@@ -1,0 +1,96 @@
+// The calls so far, as long as there is memory for them.
+ghost use Rattle.std.specs.Prelude.{◌≡◌, ◌≤◌, ◌++◌, [], ◌∷◌, ◌&&◌, ◌||◌, not, if◌then◌else◌, Some, IfOk, IsOkAnd, IsTrue};
+ghost use Rattle.kms_host.specs.Recording.{Notes};
+ghost use Rattle.kms_host.specs.Memory.{next};
+ghost use Rattle.kms_host.specs.declared.call.Call.TheVariants as calls;
+
+use crate::{Bytes, Call, NoMemory};
+use std::alloc::Global;
+use std::marker::Model;
+
+#[derive(Drop)]
+pub struct Log {
+    calls: Vec<Call>,
+    tells: bool,
+    wanted: u64,
+}
+
+impl Model for Log {
+    ghost use Rattle.kms_host.specs.Recording.{Recording, told_calls};
+
+    ghost Value = { Recording };
+
+    ghost view = { λ l. record { calls = told_calls l.tells l.calls.items; wanted = l.wanted } };
+}
+
+impl Log {
+    pub fn new(alloc: Global) -> Log
+        ensures { result ≡ record { calls = Some []; wanted = 0 } }
+    {
+        Log {
+            calls: Vec::new(alloc),
+            tells: true,
+            wanted: 0,
+        }
+    }
+
+    /// How many calls were out of memory.
+    pub fn wanted(&self) -> u64
+        ensures { result ≡ self.now.wanted }
+    {
+        self.wanted
+    }
+
+    /// Adds a call, as long as there is memory. `starved` says whether it was out of memory already.
+    pub fn note(&mut self, call: Result<Call, NoMemory>, starved: bool)
+        ensures { Notes call starved self.old self.new }
+    {
+        let lost = keep(&mut self.calls, &mut self.tells, call);
+        count_if(&mut self.wanted, starved, lost);
+    }
+}
+
+// Adds a call at the end, as long as the calls are told. Answers whether there was no memory for it: from then on they
+// are told no more.
+fn keep(calls: &mut Vec<Call>, tells: &mut bool, call: Result<Call, NoMemory>) -> bool
+    ensures lost { result ≡ (tells.old && not tells.new) }
+    ensures told { IsTrue tells.new → IsTrue tells.old × IsOkAnd call (λ c. calls.new.items ≡ calls.old.items ++ c ∷ []) }
+{
+    let told = *tells;
+    *tells = told && push(calls, call);
+    told && !*tells
+}
+
+// Adds a call at the end, and says whether there was memory for it.
+fn push(calls: &mut Vec<Call>, call: Result<Call, NoMemory>) -> bool
+    ensures { IsTrue result → IsOkAnd call (λ c. calls.new.items ≡ calls.old.items ++ c ∷ []) }
+{
+    match call {
+        Ok(call) => calls.push(call).is_ok(),
+        Err(NoMemory) => false,
+    }
+}
+
+// Counts a call that was out of memory before it was recorded, or then.
+fn count_if(wanted: &mut u64, starved: bool, lost: bool)
+    ensures count { wanted.new ≡ (if starved || lost then next wanted.old else wanted.old) }
+    ensures later { wanted.old ≤ wanted.new }
+{
+    if starved || lost {
+        *wanted = wanted.saturating_add(1);
+    }
+}
+
+/// The bytes that came on a line.
+pub fn took(alloc: Global, line: u32, room: usize, bytes: &[u8]) -> Result<Call, NoMemory>
+    ensures { IfOk result (λ c. c ≡ calls.Took line room (Some bytes.now)) }
+{
+    Ok(Call::Took(line, room, Some(Bytes::of(alloc, bytes)?)))
+}
+
+/// A piece for a line, and the length of the front that was sent.
+pub fn gave(alloc: Global, line: u32, piece: &[u8], sent: Option<usize>) -> Result<Call, NoMemory>
+    ensures { IfOk result (λ c. c ≡ calls.Gave line piece.now sent) }
+{
+    Ok(Call::Gave(line, Bytes::of(alloc, piece)?, sent))
+}
