@@ -34,3 +34,6 @@ pub record NeverFalls (before now : Faults) : Type 0 where
 pub record HasCause {T E : Type 0} (count : Count) (before now : Faults) (result : Result T E) : Type 0 where
   pub later : NeverFalls before now
   pub failed : OnErr result (Rose (count_of count before) (count_of count now))
+
+abbrev pub no_faults : Faults
+no_faults = record { key_file = 0; store = 0; link = 0; draw = 0; listen = 0 }

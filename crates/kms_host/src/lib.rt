@@ -5,8 +5,12 @@ mod bytes;
 mod call;
 mod host;
 mod memory;
+mod pipe;
+#[cfg(test)]
+mod tests;
 
 pub use bytes::{Bytes, NoMemory};
 pub use call::{Call, Count, Failed};
 pub use host::Host;
 pub use memory::MemoryHost;
+pub use pipe::PipeHost;
