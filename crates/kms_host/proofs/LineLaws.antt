@@ -1,8 +1,8 @@
 -- What two spans of calls mean, one after the other, and what a span of gives leaves as it was.
 use Rattle.std.proofs.Common.{◌≡◌, ℕ, ◌+◌, ◌≤◌, List, [], ◌∷◌, ◌++◌, take, Some, None, Bool, true, false, nat_eq, cond, refl, sym, ap, subst, eq-eqb, ◌∙◌, arith}
-use Rattle.std.specs.Prelude.{◌&&◌, ◌||◌}
+use Rattle.std.specs.Prelude.{Option, ◌&&◌, ◌||◌}
 use Rattle.std.proofs.lemmas.List.{append_assoc, append-nil}
-use Rattle.kms_host.specs.History.{History}
+use Rattle.kms_host.specs.History.{History, WhereTold}
 use Rattle.kms_host.specs.Moment.{then_calls}
 use Rattle.kms_host.specs.Line.{taken, sent, times, is_empty, at_end, failed_on, is_shut, opened, IsOpen, OnlyGives}
 use Rattle.kms_host.specs.declared.call.Call.{Call}
@@ -156,3 +156,14 @@ open-gives line l h gives only is = record {
   came = subst (λ (calls : List Call). line ≤ opened calls) (sym (then_calls-calls h gives)) (subst (λ (n : ℕ). line ≤ n) (sym (opened-gives l gives h.calls only)) is.came);
   not_shut = ap (is_shut line) (then_calls-calls h gives) ∙ is_shut-gives line l gives h.calls only ∙ is.not_shut;
 }
+
+-- line 0 is open where there was no call
+pub open_at_first : (h : Option History) (opening : List ℕ × List ℕ) (key_files : List (List ℕ × List ℕ)) → h ≡ Some (record { opening = opening; key_files = key_files; calls = [] }) → WhereTold h (IsOpen 0)
+open_at_first h opening key_files fresh = record {
+  told = λ now is.
+      let first : History = record { opening = opening; key_files = key_files; calls = [] } in
+      subst (IsOpen 0) (some_is first now (sym fresh ∙ is)) (record { came = omega arith; not_shut = refl });
+}
+  where
+    some_is : (a b : History) → Some a ≡ Some b → a ≡ b
+    some_is a b is = grind (arith, is)

@@ -75,6 +75,7 @@ impl MemoryHost {
         requires { 0 < piece }
         ensures ok { OnOk result (self.new ≡ record self.old { lines = self.old.lines ++ record { bytes = bytes.now; piece = piece; at = 0 } ∷ [] }) }
         ensures err { OnErr result (self.new ≡ self.old) }
+        ensures told { self.new.history ≡ self.old.history }
     {
         self.inputs.push(Input::new(self.alloc, bytes, piece)?)?;
         Ok(())
@@ -84,6 +85,7 @@ impl MemoryHost {
     pub fn moment(&mut self, moment: u64) -> Result<(), NoMemory>
         ensures ok { OnOk result (self.new ≡ record self.old { moments = self.old.moments ++ moment ∷ [] }) }
         ensures err { OnErr result (self.new ≡ self.old) }
+        ensures told { self.new.history ≡ self.old.history }
     {
         self.moments.push(moment)?;
         Ok(())
@@ -93,6 +95,7 @@ impl MemoryHost {
     pub fn fail(&mut self, count: Count, nth: u64) -> Result<(), NoMemory>
         ensures ok { OnOk result (self.new ≡ record self.old { counters = listing_of count nth self.old.counters }) }
         ensures err { OnErr result (self.new ≡ self.old) }
+        ensures told { self.new.history ≡ self.old.history }
     {
         match count {
             Count::KeyFile => self.key_file.fail(nth),
