@@ -82,4 +82,11 @@ impl Name {
     {
         &self.bytes[..self.len as usize]
     }
+
+    /// The name as a string slice: its bytes are ASCII.
+    pub fn as_str(&self) -> &str
+        ensures { result.now ≡ self.now }
+    {
+        std::str::from_utf8(&self.bytes[..self.len as usize]).unwrap()
+    }
 }
