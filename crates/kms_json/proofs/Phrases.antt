@@ -1,0 +1,60 @@
+-- Each status of an answer has a reason phrase.
+use Rattle.std.proofs.Common.{◌≡◌, ℕ, List, Some, is_some, true, refl, ap, arith}
+use Rattle.http.specs.StatusCode.{IsStatusCode, reason_phrase}
+use Rattle.kms_world.specs.declared.refusal.Refusal.{Refusal}
+use Rattle.kms_world.specs.declared.refusal.Refusal.TheVariants.{BadMessage, HeadTooLong, BodyTooLong, LengthRequired, NoIdentity, NoRoute, WrongMethod, NoObject, Denied, NotAcceptable, WrongType, BadBody, PayloadTooLong, NotOffered, Conflict, QuotaReached, IdsSpent}
+use Rattle.kms_world.specs.declared.answer.Answer.{Answer}
+use Rattle.kms_world.specs.declared.answer.Answer.TheVariants.{Refused, Link, Secret}
+use Rattle.kms_json.specs.Refused.{status_of, title_of}
+use Rattle.kms_json.specs.Answer.{reply_of}
+
+pub IsStatusCode-status_of : (refusal : Refusal) → IsStatusCode (status_of refusal)
+IsStatusCode-status_of BadMessage = (omega arith, omega arith)
+IsStatusCode-status_of HeadTooLong = (omega arith, omega arith)
+IsStatusCode-status_of BodyTooLong = (omega arith, omega arith)
+IsStatusCode-status_of LengthRequired = (omega arith, omega arith)
+IsStatusCode-status_of NoIdentity = (omega arith, omega arith)
+IsStatusCode-status_of NoRoute = (omega arith, omega arith)
+IsStatusCode-status_of (WrongMethod allow) = (omega arith, omega arith)
+IsStatusCode-status_of NoObject = (omega arith, omega arith)
+IsStatusCode-status_of (Denied rule) = (omega arith, omega arith)
+IsStatusCode-status_of NotAcceptable = (omega arith, omega arith)
+IsStatusCode-status_of WrongType = (omega arith, omega arith)
+IsStatusCode-status_of (BadBody field) = (omega arith, omega arith)
+IsStatusCode-status_of PayloadTooLong = (omega arith, omega arith)
+IsStatusCode-status_of NotOffered = (omega arith, omega arith)
+IsStatusCode-status_of Conflict = (omega arith, omega arith)
+IsStatusCode-status_of (QuotaReached kind limit) = (omega arith, omega arith)
+IsStatusCode-status_of IdsSpent = (omega arith, omega arith)
+
+pub reason_phrase-status_of : (refusal : Refusal) → reason_phrase (status_of refusal) ≡ Some (title_of refusal)
+reason_phrase-status_of BadMessage = refl
+reason_phrase-status_of HeadTooLong = refl
+reason_phrase-status_of BodyTooLong = refl
+reason_phrase-status_of LengthRequired = refl
+reason_phrase-status_of NoIdentity = refl
+reason_phrase-status_of NoRoute = refl
+reason_phrase-status_of (WrongMethod allow) = refl
+reason_phrase-status_of NoObject = refl
+reason_phrase-status_of (Denied rule) = refl
+reason_phrase-status_of NotAcceptable = refl
+reason_phrase-status_of WrongType = refl
+reason_phrase-status_of (BadBody field) = refl
+reason_phrase-status_of PayloadTooLong = refl
+reason_phrase-status_of NotOffered = refl
+reason_phrase-status_of Conflict = refl
+reason_phrase-status_of (QuotaReached kind limit) = refl
+reason_phrase-status_of IdsSpent = refl
+
+-- a link is answered with a status that has a reason phrase, as 201 Created has
+abbrev pub HasPhrase : Answer → Type 0
+HasPhrase (Refused refusal) = Unit {0}
+HasPhrase (Link status link id) = is_some (reason_phrase status) ≡ true
+HasPhrase (Secret row) = Unit {0}
+
+-- then so is each answer
+pub reason_phrase-reply_of : (endpoint : List ℕ) (answer : Answer) → HasPhrase answer → is_some (reason_phrase (reply_of endpoint answer).status) ≡ true
+unfolding reply_of
+reason_phrase-reply_of endpoint (Refused refusal) h = ap is_some (reason_phrase-status_of refusal)
+reason_phrase-reply_of endpoint (Link status link id) h = h
+reason_phrase-reply_of endpoint (Secret row) h = refl

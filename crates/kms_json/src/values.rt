@@ -1,0 +1,61 @@
+// Values of attributes, and the text of a value.
+ghost use Rattle.std.specs.Prelude.{◌≡◌, ◌<◌, false, IfOk, IsUtf8};
+ghost use Rattle.serde_json.specs.Data.{string};
+ghost use Rattle.serde_json.specs.View.{view};
+ghost use Rattle.serde_json.specs.Written.{compact_text, has_float};
+ghost use Rattle.kms_world.specs.Times.{end_of_times, IsTime};
+ghost use Rattle.kms_json.specs.Values.{text_or_null, number_or_null, time_data, time_or_null};
+
+use kms_text::time_text;
+use kms_world::{Bytes, NoMemory, Text};
+use serde_json::Value;
+use std::alloc::Global;
+
+// A text, or null.
+pub(crate) fn text_value(alloc: Global, text: &Option<Text>) -> Result<Value, NoMemory>
+    ensures { IfOk result (λ value. view value ≡ text_or_null text.now) }
+{
+    match text {
+        None => Ok(Value::Null),
+        Some(text) => Ok(Value::try_from_str(alloc, text.as_str())?),
+    }
+}
+
+// A number, or null.
+pub(crate) fn number_value(number: Option<u16>) -> Value
+    ensures { view result ≡ number_or_null number }
+{
+    match number {
+        None => Value::Null,
+        Some(number) => Value::from(number),
+    }
+}
+
+// The text of a time in seconds since 1970, before the year 10000.
+pub(crate) fn time_value(alloc: Global, moment: u64) -> Result<Value, NoMemory>
+    requires { moment < end_of_times }
+    ensures { IfOk result (λ value. view value ≡ time_data moment) }
+{
+    let text = time_text(moment);
+    Ok(Value::try_from_str(alloc, std::str::from_utf8(&text).unwrap())?)
+}
+
+// The text of such a time, or null.
+pub(crate) fn optional_time_value(alloc: Global, moment: Option<u64>) -> Result<Value, NoMemory>
+    requires { IsTime moment }
+    ensures { IfOk result (λ value. view value ≡ time_or_null moment) }
+{
+    match moment {
+        None => Ok(Value::Null),
+        Some(moment) => time_value(alloc, moment),
+    }
+}
+
+// The text of a value that holds no float, without white space.
+pub(crate) fn body_of(alloc: Global, value: &Value) -> Result<Bytes, NoMemory>
+    requires { has_float (view value.now) ≡ false }
+    ensures { IfOk result (λ body. body ≡ compact_text (view value.now)) }
+{
+    let text = value.to_vec(alloc)?;
+    Bytes::of(alloc, &text)
+}
