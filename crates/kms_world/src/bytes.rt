@@ -53,6 +53,13 @@ impl Bytes {
         })
     }
 
+    /// The bytes of a `Vec`, whose memory they keep.
+    pub fn from_vec(items: Vec<u8>) -> Bytes
+        ensures { result ≡ items.items }
+    {
+        Bytes { items }
+    }
+
     /// The bytes as a slice.
     pub fn as_slice(&self) -> &[u8]
         ensures { result.now ≡ self.now }
