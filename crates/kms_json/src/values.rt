@@ -56,6 +56,5 @@ pub(crate) fn body_of(alloc: Global, value: &Value) -> Result<Bytes, NoMemory>
     requires { has_float (view value.now) ≡ false }
     ensures { IfOk result (λ body. body ≡ compact_text (view value.now)) }
 {
-    let text = value.to_vec(alloc)?;
-    Bytes::of(alloc, &text)
+    Ok(Bytes::from_vec(value.to_vec(alloc)?))
 }
