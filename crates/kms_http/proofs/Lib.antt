@@ -7,6 +7,7 @@ pub mod HeadLaws
 pub mod IdLaws
 pub mod LengthLaws
 pub mod PastLaws
+pub mod QuietLaws
 pub mod ReadLaws
 pub mod ReplyLaws
 pub mod SelfLaws

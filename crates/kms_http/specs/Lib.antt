@@ -2,6 +2,7 @@ pub mod Allow
 pub mod Date
 pub mod Forms
 pub mod Found
+pub mod Quiet
 pub mod ReaderFields
 pub mod Reading
 pub mod Reads

@@ -1,7 +1,8 @@
 // What stands at the front of a stream.
-ghost use Rattle.std.specs.Prelude.{◌≡◌, ◌≤◌, IfOk, length, drop, Some, None};
+ghost use Rattle.std.specs.Prelude.{◌≡◌, ◌≤◌, IfOk, length, take, drop, Some, None};
 ghost use Rattle.kms_http.specs.Forms as spec;
 ghost use Rattle.kms_http.specs.Stream as stream;
+ghost use Rattle.kms_http.specs.Quiet.{IsQuiet};
 ghost use Rattle.kms_http.specs.Found.{IsFound, IsPosted};
 
 use crate::body::{name_in, post_secret};
@@ -16,6 +17,9 @@ use std::alloc::Global;
 pub enum Found {
     Whole(Request, usize),
     Bad,
+    /// the begin of a head
+    Headless,
+    /// a head, and the begin of its body
     Part,
 }
 
@@ -52,21 +56,25 @@ fn with_form(alloc: Global, form: Form, bytes: &[u8], head: usize) -> Result<Fou
 
 // What bytes are whose head has no end.
 fn headless(bytes: &[u8]) -> Found
+    requires { None ≡ spec.head_len (take spec.head_limit bytes.now) }
     ensures { IsFound result bytes.now (stream.with_head None bytes.now) }
 {
     if bytes.len() < HEAD_LIMIT {
-        Found::Part
+        Found::Headless
     } else {
         Found::Bad
     }
 }
 
-/// What stands at the front of the bytes of a stream.
+/// What stands at the front of the bytes of a stream, where no empty line begins before this place.
 #[tactic(auto, unfolding(crate::specs::Stream::front))]
-pub fn read_front(alloc: Global, bytes: &[u8]) -> Result<Found, NoMemory>
+pub fn read_front(alloc: Global, bytes: &[u8], from: usize) -> Result<Found, NoMemory>
+    requires within { from ≤ length bytes.now }
+    requires limit { from ≤ spec.head_limit }
+    requires quiet { IsQuiet from bytes.now }
     ensures { IfOk result (λ f. IsFound f bytes.now (stream.front bytes.now)) }
 {
-    match head_at(bytes) {
+    match head_at(bytes, from) {
         None => Ok(headless(bytes)),
         Some(head) => match form_of(&bytes[..head]) {
             None => Ok(Found::Bad),

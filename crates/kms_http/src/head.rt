@@ -1,6 +1,7 @@
 // The end of a head.
 ghost use Rattle.std.specs.Prelude.{◌≡◌, ◌≤◌, IfSome, length, take};
 ghost use Rattle.kms_http.specs.Forms as spec;
+ghost use Rattle.kms_http.specs.Quiet.{IsQuiet};
 
 use crate::past::past;
 
@@ -26,15 +27,30 @@ fn head_len(bytes: &[u8]) -> Option<usize>
 /// A head has at most so many bytes.
 pub const HEAD_LIMIT: usize = 512;
 
-/// How many bytes the head has, where the first 512 bytes hold a whole one.
-#[tactic(auto, using(std::proofs::lemmas::List::take_all))]
-pub fn head_at(bytes: &[u8]) -> Option<usize>
+// The bytes among which a head has to end.
+fn limited(bytes: &[u8]) -> &[u8]
+    ensures { result.now ≡ take spec.head_limit bytes.now }
+{
+    if bytes.len() < HEAD_LIMIT {
+        bytes
+    } else {
+        &bytes[..HEAD_LIMIT]
+    }
+}
+
+/// How many bytes the head has, where the first 512 bytes hold a whole one. The head's end is looked for from this
+/// place on, before which no empty line begins.
+pub fn head_at(bytes: &[u8], from: usize) -> Option<usize>
+    requires within { from ≤ length bytes.now }
+    requires limit { from ≤ spec.head_limit }
+    requires quiet { IsQuiet from bytes.now }
     ensures value { result ≡ spec.head_len (take spec.head_limit bytes.now) }
     ensures bound { IfSome result (λ n. n ≤ length bytes.now) }
 {
-    if bytes.len() < HEAD_LIMIT {
-        head_len(bytes)
-    } else {
-        head_len(&bytes[..HEAD_LIMIT])
+    let searched = limited(bytes);
+    let (_, rest) = searched.split_at(from);
+    match head_len(rest) {
+        None => None,
+        Some(count) => Some(count + from),
     }
 }

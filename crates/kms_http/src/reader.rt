@@ -16,6 +16,8 @@ pub struct Reader {
     bytes: Vec<u8>,
     /// the bytes before this place were given
     start: usize,
+    /// no empty line begins in so many bytes behind it
+    searched: usize,
     passed: u64,
 }
 
@@ -50,8 +52,17 @@ impl Reader {
             alloc,
             bytes: Vec::new(alloc),
             start: 0,
+            searched: 0,
             passed: 0,
         }
+    }
+
+    // The bytes held.
+    fn rest(&self) -> &[u8]
+        ensures { result.now ≡ self.now.held }
+    {
+        let (_, rest) = self.bytes.split_at(self.start);
+        rest
     }
 
     // Drops the bytes that were given, once they are half of all.
@@ -81,9 +92,10 @@ impl Reader {
         ensures ok { IfOk result (λ r. Reads r self.old self.new) }
         ensures err { OnErr result (self.new ≡ self.old) }
     {
-        match read_front(self.alloc, &self.bytes[self.start..])? {
+        match read_front(self.alloc, self.rest(), self.searched)? {
             Found::Whole(request, used) => {
                 self.start += used;
+                self.searched = 0;
                 self.passed += used as u64;
                 Ok(Read::Message {
                     request,
@@ -91,6 +103,10 @@ impl Reader {
                 })
             }
             Found::Bad => Ok(Read::Bad),
+            Found::Headless => {
+                self.searched = self.held().saturating_sub(3);
+                Ok(Read::More)
+            }
             Found::Part => Ok(Read::More),
         }
     }

@@ -149,7 +149,13 @@ fn a_stream(rt: HostRuntime) -> Result<(), Fail> {
     reader.feed(b"POST")?;
     assert!(rt; is_post(&message(&mut reader)?, b"p1", b"u1", "a"));
     assert_eq!(rt; reader.passed(), 144);
-    assert!(rt; is_get(&message(&mut reader)?, b"u.2", 0x0123456789ab_8cde_8000_0000_0000_000f));
+    assert!(rt;
+        is_get(
+            &message(&mut reader)?,
+            b"u.2",
+            0x0123456789ab_8cde_8000_0000_0000_000f
+        )
+    );
     assert_eq!(rt; reader.passed(), 261);
     assert_eq!(rt; reader.held(), 4);
     assert!(rt; !reader.is_empty());
@@ -228,9 +234,11 @@ fn printed_replies(rt: HostRuntime) -> Result<(), Fail> {
 
 #[test]
 fn replies_to_faults(rt: HostRuntime) {
-    let text = b"HTTP/1.1 503 Service Unavailable\r\nContent-Length: 0\r\nConnection: close\r\n\r\n".as_slice();
+    let text =
+        b"HTTP/1.1 503 Service Unavailable\r\nContent-Length: 0\r\nConnection: close\r\n\r\n".as_slice();
     assert!(rt; fault_reply(FaultReply::F1) == text);
-    let text = b"HTTP/1.1 503 Service Unavailable\r\nContent-Length: 0\r\nRetry-After: 1\r\n\r\n".as_slice();
+    let text =
+        b"HTTP/1.1 503 Service Unavailable\r\nContent-Length: 0\r\nRetry-After: 1\r\n\r\n".as_slice();
     assert!(rt; fault_reply(FaultReply::F2) == text);
     let text = b"HTTP/1.1 507 Insufficient Storage\r\nContent-Length: 0\r\n\r\n".as_slice();
     assert!(rt; fault_reply(FaultReply::F3) == text);

@@ -1,14 +1,23 @@
-use Rattle.std.proofs.Common.{ℕ, ◌≤◌, length, take, ap, ◌∙◌, sym, arith}
-use Rattle.std.proofs.lemmas.List.{take_all, length-take-le}
-use Rattle.kms_http.specs.Forms.{head_len, head_limit}
-use Rattle.kms_http.proofs.HeadLaws.{if_some}
+use Rattle.std.proofs.Common.{length, None, Some, sym, ap, ◌∙◌, arith}
+use Rattle.std.proofs.lemmas.List.{length-take}
+use Rattle.kms_http.specs.Forms.{head_limit}
+use Rattle.kms_http.proofs.QuietLaws.{found, found-bound}
 use Rattle.kms_http.proofs.head.head_at.Goals as goal
 
-pub returns-then-bytes-lt-HEAD_LIMIT-clause-value : goal.returns-then-bytes-lt-HEAD_LIMIT-clause-value
-returns-then-bytes-lt-HEAD_LIMIT-clause-value c =
-    c.head_len.ensures.value ∙ ap head_len (sym (take_all head_limit c.args.bytes.now (omega arith)))
+pub split_at-requires : goal.split_at-requires
+split_at-requires c = omega (arith, ap length c.limited-searched.ensures, length-take head_limit c.args.bytes.now)
 
-pub returns-else-bytes-lt-HEAD_LIMIT-clause-bound : goal.returns-else-bytes-lt-HEAD_LIMIT-clause-bound
-returns-else-bytes-lt-HEAD_LIMIT-clause-bound c =
-    let taken = length-take-le head_limit c.args.bytes.now c.if-bytes-lt-HEAD_LIMIT.false in
-    if_some c.head_len-else-bytes-lt-HEAD_LIMIT.result _ _ (λ n h. omega (arith, h, taken)) c.head_len-else-bytes-lt-HEAD_LIMIT.ensures.bound
+pub returns-in-None-clause-value : goal.returns-in-None-clause-value
+returns-in-None-clause-value c =
+    found c.args.from head_limit c.args.bytes.now c.limited-searched.result.now c.split_at.result.1.now None
+    c.requires.within c.requires.limit c.requires.quiet c.limited-searched.ensures c.split_at.ensures.back c.in-None.ensures.value
+
+pub returns-in-Some-clause-value : goal.returns-in-Some-clause-value
+returns-in-Some-clause-value c =
+    found c.args.from head_limit c.args.bytes.now c.limited-searched.result.now c.split_at.result.1.now (Some c.in-Some.count)
+    c.requires.within c.requires.limit c.requires.quiet c.limited-searched.ensures c.split_at.ensures.back c.in-Some.ensures.value
+
+pub returns-in-Some-clause-bound : goal.returns-in-Some-clause-bound
+returns-in-Some-clause-bound c =
+    found-bound c.args.from head_limit c.args.bytes.now c.limited-searched.result.now c.split_at.result.1.now c.in-Some.count
+    c.requires.within c.requires.limit c.limited-searched.ensures c.split_at.ensures.back c.in-Some.ensures.bound.1
