@@ -2,6 +2,7 @@ pub mod AllowLaws
 pub mod CalmLaws
 pub mod DateLaws
 pub mod FormLaws
+pub mod FoundLaws
 pub mod FrontLaws
 pub mod HeadLaws
 pub mod IdLaws

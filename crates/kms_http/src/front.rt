@@ -42,10 +42,12 @@ fn with_form(alloc: Global, form: Form, bytes: &[u8], head: usize) -> Result<Fou
 {
     match form {
         Form::Post(caller, size) => {
-            if bytes.len() - head < size {
+            let (_, rest) = bytes.split_at(head);
+            if rest.len() < size {
                 return Ok(Found::Part);
             }
-            posted(alloc, caller, &bytes[head..head + size], head + size)
+            let (body, _) = rest.split_at(size);
+            posted(alloc, caller, body, head + size)
         }
         Form::Get(caller, id) => {
             let op = Op::GetSecret { id: Some(id) };

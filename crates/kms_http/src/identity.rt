@@ -1,7 +1,7 @@
 // The fields that say who calls.
-ghost use Rattle.std.specs.Prelude.{◌≡◌, ◌≤◌, length, option_map};
+ghost use Rattle.std.specs.Prelude.{◌≡◌, ◌≤◌, length, option_map, IfSome, true};
 ghost use Rattle.std.specs.List.{prefix_len};
-ghost use Rattle.kms_world.specs.Name.{is_name_byte};
+ghost use Rattle.kms_world.specs.Name.{is_name, is_name_byte};
 ghost use Rattle.kms_http.specs.Forms as spec;
 
 use crate::past::past;
@@ -34,13 +34,24 @@ fn name_len(bytes: &[u8]) -> usize
     count
 }
 
-#[tactic(auto, unfolding(crate::specs::Forms::name_at))]
-fn name_at(bytes: &[u8]) -> Option<(Name, &[u8])>
-    ensures { option_map (λ x. (x.0, x.1.now)) result ≡ spec.name_at bytes.now }
+#[tactic(auto, using(crate::proofs::FormLaws::is_some_if))]
+fn is_name(text: &[u8]) -> bool
+    ensures { result ≡ is_name text.now }
 {
-    let n = name_len(bytes);
-    let name = Name::read(&bytes[..n])?;
-    Some((name, &bytes[n..]))
+    Name::read(text).is_some()
+}
+
+// The name at the front, and the bytes behind it.
+#[tactic(auto, unfolding(crate::specs::Forms::name_at))]
+fn name_at(bytes: &[u8]) -> Option<(&[u8], &[u8])>
+    ensures value { option_map (λ x. (x.0.now, x.1.now)) result ≡ spec.name_at bytes.now }
+    ensures name { IfSome result (λ x. is_name x.0.now ≡ true) }
+{
+    let (name, rest) = bytes.split_at(name_len(bytes));
+    if !is_name(name) {
+        return None;
+    }
+    Some((name, rest))
 }
 
 const CREATOR: Roles = Roles {
@@ -51,6 +62,18 @@ const CREATOR: Roles = Roles {
     service_admin: false,
 };
 
+fn caller_of(project: &[u8], user: &[u8]) -> Caller
+    requires project { is_name project.now ≡ true }
+    requires user { is_name user.now ≡ true }
+    ensures { result ≡ spec.caller_of project.now user.now }
+{
+    Caller {
+        project: Name::read(project).unwrap(),
+        user: Name::read(user).unwrap(),
+        roles: CREATOR,
+    }
+}
+
 const USER_FIELD: &[u8] = b"\r\nX-User-Id: ";
 
 /// The caller whose project stands at the front and whose user stands in the next field, and the bytes behind them.
@@ -59,22 +82,9 @@ const USER_FIELD: &[u8] = b"\r\nX-User-Id: ";
 pub fn caller_at(bytes: &[u8]) -> Option<(Caller, &[u8])>
     ensures { option_map (λ x. (x.0, x.1.now)) result ≡ spec.caller_at bytes.now }
 {
-    let Some((project, rest)) = name_at(bytes) else {
-        return None;
-    };
-    let rest = past(USER_FIELD, rest)?;
-    let Some((user, rest)) = name_at(rest) else {
-        return None;
-    };
-    let roles = CREATOR;
-    Some((
-        Caller {
-            project,
-            user,
-            roles,
-        },
-        rest,
-    ))
+    let (project, rest) = name_at(bytes)?;
+    let (user, rest) = name_at(past(USER_FIELD, rest)?)?;
+    Some((caller_of(project, user), rest))
 }
 
 const GET_FIELDS: &[u8] = b"\r\nX-Roles: creator\r\n\r\n";
