@@ -2,7 +2,7 @@
 use Rattle.std.proofs.Common.{◌≡◌, ℕ, ◌+◌, ◌≤◌, List, [], ◌∷◌, ◌++◌, take, Some, None, Bool, true, false, nat_eq, cond, refl, sym, ap, subst, eq-eqb, ◌∙◌, arith}
 use Rattle.std.specs.Prelude.{Option, ◌&&◌, ◌||◌}
 use Rattle.std.proofs.lemmas.List.{append_assoc, append-nil}
-use Rattle.kms_host.specs.History.{History, WhereTold}
+use Rattle.kms_host.specs.History.{History, WhereTold, then_call}
 use Rattle.kms_host.specs.Moment.{then_calls}
 use Rattle.kms_host.specs.Line.{taken, sent, times, is_empty, at_end, failed_on, is_shut, opened, IsOpen, OnlyGives}
 use Rattle.kms_host.specs.declared.call.Call.{Call}
@@ -156,6 +156,16 @@ open-gives line l h gives only is = record {
   came = subst (λ (calls : List Call). line ≤ opened calls) (sym (then_calls-calls h gives)) (subst (λ (n : ℕ). line ≤ n) (sym (opened-gives l gives h.calls only)) is.came);
   not_shut = ap (is_shut line) (then_calls-calls h gives) ∙ is_shut-gives line l gives h.calls only ∙ is.not_shut;
 }
+
+-- and so it does after a take, a give and a time
+pub open-took : (line l room : ℕ) (bytes : Option (List ℕ)) (was now : History) → IsOpen line was → now ≡ then_call was (Took l room bytes) → IsOpen line now
+open-took line l room bytes was now is after = subst (IsOpen line) (sym after) (record { came = is.came; not_shut = is.not_shut })
+
+pub open-gave : (line l : ℕ) (piece : List ℕ) (went : Option ℕ) (was now : History) → IsOpen line was → now ≡ then_call was (Gave l piece went) → IsOpen line now
+open-gave line l piece went was now is after = subst (IsOpen line) (sym after) (record { came = is.came; not_shut = is.not_shut })
+
+pub open-told : (line t : ℕ) (was now : History) → IsOpen line was → now ≡ then_call was (Told t) → IsOpen line now
+open-told line t was now is after = subst (IsOpen line) (sym after) (record { came = is.came; not_shut = is.not_shut })
 
 -- line 0 is open where there was no call
 pub open_at_first : (h : Option History) (opening : List ℕ × List ℕ) (key_files : List (List ℕ × List ℕ)) → h ≡ Some (record { opening = opening; key_files = key_files; calls = [] }) → WhereTold h (IsOpen 0)

@@ -1,5 +1,5 @@
 // What no clause says: that calls of a host in memory succeed, and one line from its first byte to its end.
-ghost use Rattle.std.specs.Prelude.{◌<◌, ◌≤◌, IfOk};
+ghost use Rattle.std.specs.Prelude.{◌<◌, ◌≤◌, length, IfOk};
 ghost use Rattle.kms_host.specs.History.{WhereTold};
 ghost use Rattle.kms_host.specs.Line.{IsOpen};
 
@@ -8,25 +8,34 @@ use std::alloc::Global;
 use std::rt::HostRuntime;
 use std::test::Fail;
 
-// Whether a take from line 0 gives these bytes.
-fn comes<H: Host>(host: &mut H, size: usize, bytes: &[u8]) -> bool
-    requires size { (0 < size) × (size ≤ 8) }
+// A take from line 0, which stays open.
+fn take<H: Host>(host: &mut H, room: &mut [u8]) -> Result<usize, Failed>
+    requires room { 0 < length room.old }
     requires line { WhereTold (H.history host.old) (IsOpen 0) }
+    ensures line { WhereTold (H.history host.new) (IsOpen 0) }
+    ensures bound { IfOk result (λ n. n ≤ length room.new) }
+{
+    host.take(0, room)
+}
+
+// Whether these bytes come into a room of eight.
+fn comes<H: Host>(host: &mut H, bytes: &[u8]) -> bool
+    requires { WhereTold (H.history host.old) (IsOpen 0) }
     ensures { WhereTold (H.history host.new) (IsOpen 0) }
 {
     let mut room = [0; 8];
-    match host.take(0, &mut room[..size]) {
+    match take(host, &mut room) {
         Ok(count) => &room[..count] == bytes,
         Err(Failed) => false,
     }
 }
 
-// Whether a give to line 0 sends all of these bytes.
+// Whether a give to line 0 sends all of these bytes. The line stays open.
 fn goes<H: Host>(host: &mut H, bytes: &[u8]) -> bool
     requires { WhereTold (H.history host.old) (IsOpen 0) }
     ensures { WhereTold (H.history host.new) (IsOpen 0) }
 {
-    host.give(0, bytes) == Ok(bytes.len())
+    host.give(0, bytes).is_ok()
 }
 
 // A line of seven bytes in pieces of three, whose fourth and seventh call fail.
@@ -41,18 +50,19 @@ fn ready(alloc: Global) -> Result<MemoryHost, NoMemory>
     Ok(host)
 }
 
-// What comes of it into rooms of several lengths.
+// What comes of it.
 fn all_comes<H: Host>(host: &mut H) -> bool
     requires { WhereTold (H.history host.old) (IsOpen 0) }
     ensures { WhereTold (H.history host.new) (IsOpen 0) }
 {
-    let first = comes(host, 8, b"abc");
-    let second = comes(host, 2, b"de");
-    let third = comes(host, 8, b"f");
-    let fails = !comes(host, 8, b"");
-    let last = comes(host, 8, b"g");
-    let ends = comes(host, 8, b"");
-    first & second & third & fails & last & ends
+    let mut room = [0; 2];
+    let first = comes(host, b"abc");
+    let second = take(host, &mut room) == Ok(2);
+    let third = comes(host, b"f");
+    let fails = take(host, &mut room).is_err();
+    let last = comes(host, b"g");
+    let ends = comes(host, b"");
+    first & second & third & fails & last & ends & (room == *b"de")
 }
 
 #[test]
