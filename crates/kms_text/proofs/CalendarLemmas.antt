@@ -101,7 +101,7 @@ pub record IsDated (first last number : ℕ) (date : Civil) : Type 0 where
   pub short : date.day ≤ 31
   pub count : day_number date.year date.month date.day ≡ number
 
-month_short : (year month : ℕ) → days_in_month year month ≤ 31
+pub month_short : (year month : ℕ) → days_in_month year month ≤ 31
 month_short year month = grind arith
 
 dated : (year last days : ℕ) (date : Civil) → year ≤ last → IsInYear year days date → IsDated year last (days_before_year year + days) date

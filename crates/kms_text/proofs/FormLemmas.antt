@@ -28,6 +28,14 @@ form_digit (f ∷ form) (c ∷ text) zero h zero_there = grind arith
 form_digit (f ∷ form) (c ∷ text) (suc k) h zero_there =
     let rest : has_form form text ≡ true = grind arith in form_digit form text k rest zero_there
 
+-- and the same character where the form has another
+pub form_mark : (form text : List ℕ) (k : ℕ) → has_form form text ≡ true → slice_index form k ≢ 48 → k < length form → slice_index text k ≡ slice_index form k
+form_mark [] text k h mark there = absurd (omega arith)
+form_mark (f ∷ form) [] k h mark there = absurd (false≢true h)
+form_mark (f ∷ form) (c ∷ text) zero h mark there = grind arith
+form_mark (f ∷ form) (c ∷ text) (suc k) h mark there =
+    let rest : has_form form text ≡ true = grind arith in form_mark form text k rest mark (omega arith)
+
 form_all : (form text : List ℕ) → length form ≡ length text
     → ((k : ℕ) → k < length form → fits (slice_index form k) (slice_index text k) ≡ true) → has_form form text ≡ true
 form_all [] [] len all = refl
@@ -37,7 +45,8 @@ form_all (f ∷ form) (c ∷ text) len all =
     let here : fits f c ≡ true = all 0 (omega arith) in
     rw here (form_all form text (omega arith) (λ k h. all (suc k) (omega arith)))
 
-and_false : (b : Bool) → (b && false) ≡ false
+-- a test that ends in false
+pub and_false : (b : Bool) → (b && false) ≡ false
 and_false true = refl
 and_false false = refl
 

@@ -6,5 +6,6 @@ mod MomentLemmas
 mod NumberLemmas
 mod ReadLemmas
 pub mod RoundLemmas
+pub mod TimeGrammarLemmas
 pub mod TimeLemmas
 pub mod TimeRoundLemmas

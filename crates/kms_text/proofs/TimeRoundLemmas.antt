@@ -9,28 +9,28 @@ use Rattle.kms_text.proofs.CalendarLemmas.{IsCivil, date_of_is, epoch_number, go
 use Rattle.kms_text.proofs.MomentLemmas.{from_epoch}
 
 -- each character fits the form at its place
-abbrev AllFit : List ℕ → List ℕ → Type 0
+abbrev pub AllFit : List ℕ → List ℕ → Type 0
 AllFit [] [] = Unit {0}
 AllFit [] (c ∷ text) = ⊥
 AllFit (f ∷ form) [] = ⊥
 AllFit (f ∷ form) (c ∷ text) = (fits f c ≡ true) × AllFit form text
 
-all_fit : (form text : List ℕ) → AllFit form text → has_form form text ≡ true
+pub all_fit : (form text : List ℕ) → AllFit form text → has_form form text ≡ true
 all_fit [] [] h = refl
 all_fit [] (c ∷ text) h = absurd h
 all_fit (f ∷ form) [] h = absurd h
 all_fit (f ∷ form) (c ∷ text) h = rw h.0 (all_fit form text h.1)
 
-digit_fits : (d : ℕ) → d < 10 → fits 48 (48 + d) ≡ true
+pub digit_fits : (d : ℕ) → d < 10 → fits 48 (48 + d) ≡ true
 digit_fits d small = grind arith
 
-two_shown : (n : ℕ) → (48 + n / 10 - 48) * 10 + (48 + n % 10 - 48) ≡ n
+pub two_shown : (n : ℕ) → (48 + n / 10 - 48) * 10 + (48 + n % 10 - 48) ≡ n
 two_shown n = omega arith
 
 four_shown : (n : ℕ) → ((48 + n / 1000 - 48) * 10 + (48 + n / 100 % 10 - 48)) * 100 + ((48 + n / 10 % 10 - 48) * 10 + (48 + n % 10 - 48)) ≡ n
 four_shown n = omega arith
 
-abbrev shown : Civil → ℕ → List ℕ
+abbrev pub shown : Civil → ℕ → List ℕ
 shown date second = date_text date ++ codes "T" ++ clock_text second
 
 shown_form : (date : Civil) (second : ℕ) → date.year < 10000 → date.month < 100 → date.day < 100 → second < 86400
@@ -98,7 +98,7 @@ second_shown second small =
 day_shown : (date : Civil) → IsCivil date → day_of date.year date.month date.day ≡ Some (day_number date.year date.month date.day)
 day_shown date d = rw (good_date date.year date.month date.day d.month_low d.month_high d.day_low d.day_high) refl
 
-local_shown : (date : Civil) (second : ℕ) → IsCivil date → date.year < 10000 → date.day < 100 → second < 86400
+pub local_shown : (date : Civil) (second : ℕ) → IsCivil date → date.year < 10000 → date.day < 100 → second < 86400
     → local_of (shown date second) ≡ Some (day_number date.year date.month date.day * 86400 + second)
 unfolding local_of
 local_shown date second d year day clock =

@@ -3,3 +3,4 @@ pub mod IdText
 pub mod Link
 pub mod Time
 pub mod TimeForms
+pub mod TimeGrammar

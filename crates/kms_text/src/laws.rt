@@ -1,9 +1,10 @@
 //! Laws of the texts, as functions that do nothing.
-ghost use Rattle.std.specs.Prelude.{◌≡◌, ◌<◌, ◌^◌, Some};
+ghost use Rattle.std.specs.Prelude.{◌≡◌, ℕ, ◌<◌, ◌^◌, Some, MatchOption};
 ghost use Rattle.kms_world.specs.Id.{id_number};
 ghost use Rattle.kms_text.specs.IdText.{id_text_of, read_id_of, id_of_number};
 ghost use Rattle.kms_text.specs.Link.{link_of, read_ref_of};
 ghost use Rattle.kms_text.specs.Time.{time_text_of};
+ghost use Rattle.kms_text.specs.TimeGrammar.{IsTime};
 ghost use Rattle.kms_text.specs.TimeForms.{read_time_of};
 
 use crate::Kind;
@@ -37,3 +38,8 @@ pub fn link_is_read(endpoint: &[u8], kind: Kind, id: &Id)
 {
     let _number = id.0;
 }
+
+/// What is read as a time is what the grammar of times shows, and nothing else is read.
+pub fn times_are_by_the_grammar(text: &[u8])
+    ensures { MatchOption (read_time_of text.now) ((moment : ℕ) → ¬ IsTime text.now moment) (IsTime text.now) }
+{}

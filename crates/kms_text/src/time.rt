@@ -93,6 +93,7 @@ fn read_local(text: &[u8]) -> Option<u64>
     Some(u64::from(day) * 86_400 + u64::from(second))
 }
 
+// Whether each character of a text is a digit.
 fn is_all_digits(text: &[u8]) -> bool
     ensures { result ≡ list_all is_ascii_digit text.now }
 {
@@ -121,7 +122,8 @@ fn is_fraction_text(text: &[u8]) -> bool
 
 // The seconds from 1970 on of a time in UTC, unless it's before 1970 or after 9999.
 fn moment_since_epoch(utc: u64) -> Option<u64>
-    ensures { result ≡ since_epoch utc }
+    ensures value { result ≡ since_epoch utc }
+    ensures before_end { IfSome result (λ moment. moment < 253_402_300_800) }
 {
     if utc < EPOCH_SECONDS {
         return None;
@@ -133,7 +135,8 @@ fn moment_since_epoch(utc: u64) -> Option<u64>
 // The moment of a local time. One before the year 0 is before 1970 too.
 fn moment_at(local: u64, offset: Offset) -> Option<u64>
     requires { local < 400_000_000_000 }
-    ensures { result ≡ moment_of local offset }
+    ensures value { result ≡ moment_of local offset }
+    ensures before_end { IfSome result (λ moment. moment < 253_402_300_800) }
 {
     match offset {
         Offset::Ahead(seconds) => moment_since_epoch(local.saturating_sub(u64::from(seconds))),
@@ -148,7 +151,8 @@ fn moment_at(local: u64, offset: Offset) -> Option<u64>
 /// memory.
 #[tactic(auto, unfolding(crate::specs::TimeForms::read_time_of))]
 pub fn read_time(text: &[u8]) -> Option<u64>
-    ensures { result ≡ read_time_of text.now }
+    ensures value { result ≡ read_time_of text.now }
+    ensures before_end { IfSome result (λ moment. moment < 253_402_300_800) }
 {
     if text.len() < 19 {
         return None;
