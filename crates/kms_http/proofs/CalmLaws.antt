@@ -1,5 +1,5 @@
 -- Where the head of a spelled message ends: texts in which no empty line begins, and then one.
-use Rattle.std.proofs.Common.{◌≡◌, ℕ, zero, suc, ◌+◌, ◌≤◌, List, [], ◌∷◌, ◌++◌, length, nat_eq, nat_le, Bool, true, false, not, ◌&&◌, ◌||◌, ◌==◌, Option, Some, None, is_some, option_map, cond, refl, sym, ap, ◌∙◌, arith, append_assoc, length-append, take}
+use Rattle.std.proofs.Common.{◌≡◌, ℕ, ◌+◌, List, [], ◌∷◌, ◌++◌, length, nat_eq, Bool, true, false, not, ◌&&◌, ◌||◌, ◌==◌, Option, Some, None, cond, refl, ap, ◌∙◌, arith, append_assoc, length-append}
 use Rattle.std.specs.List.{list_all}
 use Rattle.std.proofs.lemmas.Bool.Decides.{nat_tests}
 use Rattle.kms_world.specs.Name.{is_name, is_name_byte}

@@ -1,5 +1,5 @@
 -- A body that was posted is the body of the message at the front.
-use Rattle.std.proofs.Common.{◌≡◌, ℕ, ◌+◌, ◌≤◌, List, length, take, drop, nat_lt, true, false, Option, Some, None, cond, refl, sym, ap, ◌∙◌, arith, length-drop, drop-drop}
+use Rattle.std.proofs.Common.{◌≡◌, ℕ, ◌+◌, ◌≤◌, List, length, take, drop, nat_lt, false, Some, None, refl, sym, ap, ◌∙◌, arith, length-drop, drop-drop}
 use Rattle.std.proofs.lemmas.Bool.{le-ltb}
 use Rattle.kms_world.specs.declared.caller.Caller.{Caller}
 use Rattle.kms_http.specs.declared.front.Found.{Found}

@@ -1,5 +1,5 @@
 -- A message stays what it is when more bytes come.
-use Rattle.std.proofs.Common.{◌≡◌, ℕ, ◌+◌, ◌≤◌, ◌<◌, List, ◌++◌, length, take, drop, nat_lt, Bool, true, false, Option, Some, None, cond, refl, sym, ap, ◌∙◌, arith, length-append, ltb-false}
+use Rattle.std.proofs.Common.{◌≡◌, ℕ, ◌≤◌, List, ◌++◌, length, take, drop, nat_lt, Bool, true, false, Option, Some, None, cond, refl, ap, ◌∙◌, arith, length-append, ltb-false}
 use Rattle.std.proofs.lemmas.Bool.{le-ltb}
 use Rattle.std.proofs.lemmas.List.{length-take, take-append-le, drop-append-le}
 use Rattle.kms_world.specs.declared.caller.Caller.{Caller}

@@ -1,8 +1,7 @@
 -- The text of an id has hexadecimal digits and hyphens alone.
-use Rattle.std.proofs.Common.{◌≡◌, ◌≢◌, ℕ, zero, suc, ◌<◌, ◌≤◌, ◌&&◌, ◌||◌, ◌==◌, List, [], ◌∷◌, length, get_or, slice_index, nat_eq, Bool, true, false, true≢false, Option, Some, None, option_map, cond, inl, inr, ◌⊎◌, arith, refl, sym, ap, ◌∙◌}
+use Rattle.std.proofs.Common.{◌≡◌, ◌≢◌, ℕ, suc, ◌<◌, ◌≤◌, ◌&&◌, ◌||◌, ◌==◌, List, [], ◌∷◌, length, get_or, slice_index, Bool, true, false, true≢false, Some, None, inl, inr, arith, refl, sym, ap, ◌∙◌}
 use Rattle.std.specs.List.{list_all}
 use Rattle.std.proofs.lemmas.Bool.{cases_lt, cases_Bool}
-use Rattle.std.proofs.lemmas.Bool.Decides.{nat_tests}
 use Rattle.std.proofs.lemmas.List.Folds.{list_all_at}
 use Rattle.uuid.specs.Text.{is_hex_digit, hyphen_place, digit_place, is_hyphen_place, digits_of, has_hyphens, parsed_hyphenated, parsed_simple}
 use Rattle.uuid.proofs.TextLemmas.{by_index_at, by_index_length}

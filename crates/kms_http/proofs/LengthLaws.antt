@@ -1,12 +1,11 @@
 -- How long a message is.
-use Rattle.std.proofs.Common.{◌≡◌, ℕ, zero, suc, ◌+◌, ◌*◌, ◌≤◌, ◌<◌, List, ◌++◌, length, take, drop, nat_eq, nat_lt, Bool, true, false, ◌||◌, Option, Some, None, cond, refl, ap, arith, length-drop, ltb-true, ◌⊎◌, inl, inr}
+use Rattle.std.proofs.Common.{◌≡◌, ℕ, zero, suc, ◌+◌, ◌*◌, ◌≤◌, ◌<◌, List, length, take, drop, nat_eq, nat_lt, Bool, true, false, ◌||◌, Option, Some, None, cond, refl, ap, arith, length-drop, ltb-true, inl, inr}
 use Rattle.std.proofs.lemmas.List.{length-take}
-use Rattle.std.proofs.lemmas.Bool.Decides.{nat_tests}
 use Rattle.kms_world.specs.declared.caller.Caller.{Caller}
 use Rattle.kms_http.specs.declared.request.Request.{Request}
 use Rattle.kms_http.specs.declared.request.Form.{Form}
 use Rattle.kms_http.specs.declared.request.Form.TheVariants.{Post, Get}
-use Rattle.kms_http.specs.Forms.{head_len, head_limit, form_of, name_in, post_head, get_head}
+use Rattle.kms_http.specs.Forms.{head_len, head_limit, form_of, name_in}
 use Rattle.kms_http.specs.Stream.{Front, with_name, with_form, with_head, front, After, behind, onward, after, longest}
 use Rattle.kms_http.specs.Stream.Front.{Whole, Bad, Part}
 use Rattle.kms_http.specs.Stream.After.{Going, Over, Broken}

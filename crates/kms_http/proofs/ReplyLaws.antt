@@ -1,5 +1,5 @@
 -- How a printed reply begins, and that it is no fault's reply.
-use Rattle.std.proofs.Common.{◌≡◌, ℕ, ◌+◌, ◌/◌, ◌%◌, ◌<◌, List, [], ◌∷◌, ◌++◌, length, get_or, Bool, Option, Some, None, refl, sym, ap, ◌∙◌, arith, append_assoc, codes}
+use Rattle.std.proofs.Common.{◌≡◌, ℕ, ◌+◌, ◌/◌, ◌%◌, ◌<◌, List, ◌∷◌, ◌++◌, length, get_or, Bool, refl, sym, ap, ◌∙◌, arith, append_assoc, codes}
 use Rattle.kms_world.specs.declared.reply.Reply.{Reply}
 use Rattle.http.specs.StatusCode.{code_digits}
 use Rattle.kms_http.specs.Forms.{crlf}

@@ -1,17 +1,15 @@
 -- What is spelled is read step by step.
-use Rattle.std.proofs.Common.{◌≡◌, ℕ, zero, suc, ◌+◌, ◌-◌, ◌≤◌, ◌<◌, List, [], ◌∷◌, ◌++◌, length, take, drop, nat_eq, nat_lt, nat_le, Bool, true, false, not, ◌&&◌, Option, Some, None, is_some, cond, codes, refl, sym, ap, ◌∙◌, arith, length-append, eq-eqb}
+use Rattle.std.proofs.Common.{◌≡◌, ℕ, ◌-◌, ◌≤◌, List, [], ◌∷◌, ◌++◌, length, take, drop, nat_eq, nat_lt, nat_le, Bool, true, false, ◌&&◌, Some, None, codes, refl, arith, length-append, eq-eqb}
 use Rattle.std.proofs.Math.Seq.{take-append_seam, drop-append_seam}
 use Rattle.std.proofs.lemmas.Bool.Decides.{nat_tests}
 use Rattle.std.proofs.lemmas.Bool.{le-ltb}
 use Rattle.std.proofs.lemmas.List.{take_at}
 use Rattle.std.specs.List.{list_all, prefix_len}
-use Rattle.kms_world.specs.declared.caller.Caller.{Caller}
 use Rattle.kms_world.specs.declared.id.Id.{Id}
 use Rattle.kms_world.specs.Name.{is_name, is_name_byte}
 use Rattle.kms_text.specs.IdText.{read_id_of}
-use Rattle.kms_http.specs.declared.request.Form.{Form}
 use Rattle.kms_http.specs.declared.request.Form.TheVariants.{Post, Get}
-use Rattle.kms_http.specs.Forms.{past, empty_line, name_at, is_digit, digits_value, is_size, size_at, at_end, caller_at, caller_of, caller_at_end, size_at_end, post_head, get_head, id_at, form_of, user_field, post_line, post_fields, get_line, get_fields, project_field, body_front, body_back, name_in, is_secret_name, ◌>>=◌}
+use Rattle.kms_http.specs.Forms.{past, empty_line, name_at, is_digit, is_size, size_at, caller_at, caller_of, caller_at_end, size_at_end, post_head, get_head, id_at, user_field, post_line, post_fields, get_line, get_fields, project_field, body_front, body_back, name_in, is_secret_name}
 use Rattle.kms_http.proofs.FormLaws.{both}
 use Rattle.kms_http.proofs.SizeLaws.{IsSizeText}
 

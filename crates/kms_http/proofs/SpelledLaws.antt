@@ -1,29 +1,28 @@
 -- A spelled message is read as that message, and what is read as a message was spelled so.
-use Rattle.std.proofs.Common.{◌≡◌, ℕ, ◌+◌, ◌≤◌, List, [], ◌∷◌, ◌++◌, length, take, drop, nat_lt, Bool, true, false, Option, Some, None, cond, codes, refl, sym, ap, subst, ◌∙◌, arith, ltb-false, append_assoc, length-append, ◌⊎◌, inl, inr}
+use Rattle.std.proofs.Common.{◌≡◌, ℕ, ◌+◌, ◌≤◌, List, ◌++◌, length, take, drop, nat_lt, Bool, true, false, Option, Some, None, codes, refl, sym, ap, subst, ◌∙◌, arith, ltb-false, append_assoc, length-append, inl, inr}
 use Rattle.std.proofs.Math.Seq.{take-append_seam, drop-append_seam}
 use Rattle.std.proofs.lemmas.Bool.{le-ltb}
 use Rattle.std.proofs.lemmas.Bool.Decides.{nat_tests}
 use Rattle.std.proofs.lemmas.List.{take_all, length-take-le, take-append-drop}
 use Rattle.std.specs.Fmt.{decimal}
-use Rattle.std.specs.List.{list_all}
 use Rattle.kms_world.specs.declared.caller.Caller.{Caller}
 use Rattle.kms_world.specs.declared.id.Id.{Id}
-use Rattle.kms_world.specs.Name.{is_name, is_name_byte}
+use Rattle.kms_world.specs.Name.{is_name}
 use Rattle.kms_text.specs.IdText.{read_id_of}
 use Rattle.kms_http.specs.declared.request.Request.{Request}
 use Rattle.kms_http.specs.declared.request.Form.{Form}
 use Rattle.kms_http.specs.declared.request.Form.TheVariants.{Post, Get}
-use Rattle.kms_http.specs.Forms.{crlf, empty_line, head_len, head_limit, form_of, post_head, get_head, or_else, name_in, is_secret_name, caller_of, post_of, get_of, user_field, post_line, post_fields, get_line, get_fields, project_field, body_front, body_back}
+use Rattle.kms_http.specs.Forms.{crlf, empty_line, head_len, head_limit, form_of, post_head, name_in, is_secret_name, caller_of, post_of, get_of, user_field, post_line, post_fields, get_line, get_fields, project_field, body_front, body_back}
 use Rattle.kms_http.specs.Spelled.{spell_post, spell_get, spell_body, IsPost, IsGet, IsSpelled}
-use Rattle.kms_http.specs.Stream.{Front, with_name, with_form, with_head, front}
+use Rattle.kms_http.specs.Stream.{with_name, with_form, with_head, front}
 use Rattle.kms_http.specs.Stream.Front.{Whole, Bad, Part}
-use Rattle.kms_http.proofs.FormLaws.{both, branched}
-use Rattle.kms_http.proofs.HeadLaws.{head_len-bounds, take-onto}
-use Rattle.kms_http.proofs.CalmLaws.{calm, calm-name, calm-digits, calm-id, calm-on, IsWholeHead, empty_line-head}
+use Rattle.kms_http.proofs.FormLaws.{branched}
+use Rattle.kms_http.proofs.HeadLaws.{take-onto}
+use Rattle.kms_http.proofs.CalmLaws.{calm-name, calm-digits, calm-id, calm-on, IsWholeHead, empty_line-head}
 use Rattle.kms_http.proofs.IdLaws.{id_bytes}
 use Rattle.kms_http.proofs.SizeLaws.{IsSizeText, decimal_is, text_is, lead_any, digits_some}
 use Rattle.kms_http.proofs.SelfLaws.{post_head-self, get_head-self, post_head-none, name_in-self}
-use Rattle.kms_http.proofs.ReadLaws.{IsHead, IsPostHead, IsGetHead, form_of-split, name_in-split}
+use Rattle.kms_http.proofs.ReadLaws.{IsPostHead, IsGetHead, form_of-split, name_in-split}
 
 -- the heads with their parts in order
 abbrev post_text : (project user text : List ℕ) → List ℕ

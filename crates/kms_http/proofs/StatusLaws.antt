@@ -1,5 +1,5 @@
 -- Statuses with a reason phrase are codes of three digits.
-use Rattle.std.proofs.Common.{◌≡◌, ℕ, ◌≤◌, ◌<◌, ◌&&◌, List, Bool, true, false, Option, Some, Result, Ok, Err, is_some, nat_eq, nat_le, nat_lt, cond, refl, arith, rules}
+use Rattle.std.proofs.Common.{◌≡◌, ℕ, ◌&&◌, List, Bool, true, false, Option, Some, Result, Ok, Err, is_some, nat_eq, nat_le, nat_lt, cond, refl, arith, rules}
 use Rattle.std.proofs.lemmas.Bool.Decides.{nat_tests}
 use Rattle.std.specs.Result.{IsOk, OkIff}
 use Rattle.http.specs.StatusCode.{IsStatusCode, reason_phrase}

@@ -1,6 +1,6 @@
 -- What is served stays, however the stream goes on.
-use Rattle.std.proofs.Common.{◌≡◌, ℕ, zero, suc, ◌+◌, ◌*◌, ◌≤◌, List, ◌++◌, length, Bool, true, false, ◌||◌, nat_eq, Option, Some, None, cond, refl, ap, arith}
-use Rattle.kms_http.specs.Stream.{Front, front, After, behind, onward, after, Served, served, served_next, served_at, longest}
+use Rattle.std.proofs.Common.{◌≡◌, ℕ, zero, suc, ◌+◌, List, ◌++◌, Bool, true, false, ◌||◌, nat_eq, Some, cond, refl}
+use Rattle.kms_http.specs.Stream.{Front, front, After, behind, onward, after, Served, served, served_next, served_at}
 use Rattle.kms_http.specs.Stream.Front.{Whole, Bad, Part}
 use Rattle.kms_http.specs.Stream.After.{Going, Over, Broken}
 use Rattle.kms_http.proofs.FormLaws.{bound}

@@ -1,5 +1,5 @@
 -- What the reading of a front found.
-use Rattle.std.specs.Prelude.{◌≡◌, ℕ, ◌≤◌, ◌<◌, List, length, drop, Option, Some, None, Bool, false}
+use Rattle.std.specs.Prelude.{◌≡◌, ℕ, ◌≤◌, ◌<◌, List, length, drop, Option, Some, None, false}
 use Rattle.kms_world.specs.declared.caller.Caller.{Caller}
 use Rattle.kms_http.specs.declared.front.Found.{Found}
 use Rattle.kms_http.specs.declared.front.Found.TheVariants as found

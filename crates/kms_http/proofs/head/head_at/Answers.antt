@@ -1,4 +1,4 @@
-use Rattle.std.proofs.Common.{length, None, Some, sym, ap, ◌∙◌, arith}
+use Rattle.std.proofs.Common.{length, None, Some, ap, arith}
 use Rattle.std.proofs.lemmas.List.{length-take}
 use Rattle.kms_http.specs.Forms.{head_limit}
 use Rattle.kms_http.proofs.QuietLaws.{found, found-bound}

@@ -1,4 +1,4 @@
-use Rattle.std.proofs.Common.{◌≡◌, List, ℕ, None, ap, sym, ◌∙◌, length, drop, length-drop, arith}
+use Rattle.std.proofs.Common.{◌≡◌, None, ap, sym, ◌∙◌, length, drop, length-drop, arith}
 use Rattle.kms_http.specs.Forms.{head_len}
 use Rattle.kms_http.specs.Reading.{Reading}
 use Rattle.kms_http.proofs.QuietLaws.{none-quiet}
