@@ -35,7 +35,8 @@ impl Key {
 
     /// The block enciphered (FIPS 197, section 5.1).
     pub fn encrypt(&self, block: [u8; 16]) -> [u8; 16]
-        ensures { result ≡ encrypt self.now block }
+        ensures block { IsBlock result }
+        ensures enciphered { result ≡ encrypt self.now block }
     {
         self.encrypted(&block)
     }
@@ -58,7 +59,8 @@ impl Key {
     }
 
     fn encrypted(&self, block: &[u8; 16]) -> [u8; 16]
-        ensures { result ≡ encrypt self.now block.now }
+        ensures block { IsBlock result }
+        ensures enciphered { result ≡ encrypt self.now block.now }
     {
         let mut state = added(block, &self.round_keys[0]);
         for round in 1..10 {

@@ -21,8 +21,8 @@ loop-round-preserved c =
     ∙ ap (λ (t : List ℕ). sum_of t (round_key c.args.self.now c.loop-round.round))
     (c.mixed_columns-mixed.ensures ∙ ap mix_columns (c.shifted_rows-shifted.ensures ∙ ap shift_rows c.substituted.ensures)))
 
-pub returns : goal.returns
-returns c =
+pub returns-clause-enciphered : goal.returns-clause-enciphered
+returns-clause-enciphered c =
     encrypt-all c.args.self.now c.args.block.now c.loop-round.state c.added.result c.loop-round.round
     (omega arith) c.loop-round.invariant
     (c.added.ensures.sum

@@ -1,0 +1,4 @@
+pub mod Hmac
+pub mod Cbc
+pub mod Key
+pub mod Token
