@@ -1,6 +1,6 @@
 -- Chaining block by block, forward and back.
-use Rattle.std.proofs.Common.{◌≡◌, ℕ, zero, suc, ◌+◌, ◌-◌, ◌*◌, ◌/◌, ◌%◌, ◌<◌, ◌≤◌, List, [], ◌∷◌, ◌++◌, length, take, drop, arith, refl, sym, ap, ◌∙◌, append_assoc, add-one}
-use Rattle.std.proofs.lemmas.List.{take_at, drop_at, drop-drop, length-take, length-drop, append-nil, take_all, length-append, take-append-drop}
+use Rattle.std.proofs.Common.{◌≡◌, ℕ, zero, suc, ◌+◌, ◌-◌, ◌*◌, ◌/◌, ◌<◌, ◌≤◌, List, [], ◌∷◌, ◌++◌, length, take, drop, arith, refl, sym, ap, ◌∙◌, append_assoc}
+use Rattle.std.proofs.lemmas.List.{take_at, drop_at, drop-drop, append-nil, take_all}
 use Rattle.kms_aes.specs.Field.{sum_of}
 use Rattle.kms_aes.specs.Cipher.{encrypt}
 use Rattle.kms_fernet.specs.Cbc.{blocks, chained, joined, cbc}
@@ -13,7 +13,7 @@ pub cbc-chain : (key iv text : List ℕ) (n : ℕ) → length text / 16 ≡ n �
 unfolding cbc chain
 cbc-chain key iv text n e = ap (λ (k : ℕ). chain key iv k text) e
 
-chain-next : (key before text : List ℕ) (n : ℕ) (enciphered : List ℕ)
+pub chain-next : (key before text : List ℕ) (n : ℕ) (enciphered : List ℕ)
     → enciphered ≡ encrypt key (sum_of (take 16 text) before)
     → chain key before (suc n) text ≡ enciphered ++ chain key enciphered n (drop 16 text)
 unfolding blocks chained joined chain

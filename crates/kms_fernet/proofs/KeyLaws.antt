@@ -1,8 +1,8 @@
 -- A key's text has 44 characters, and decodes to the key alone.
-use Rattle.std.proofs.Common.{◌≡◌, ◌≢◌, ℕ, ◌+◌, ◌-◌, ◌*◌, ◌/◌, ◌%◌, List, Result, Ok, Err, ◌++◌, length, take, drop, replicate, subst, arith, refl, sym, ap, ◌∙◌}
+use Rattle.std.proofs.Common.{◌≡◌, ◌≢◌, ℕ, ◌+◌, ◌-◌, ◌*◌, ◌/◌, ◌%◌, List, Result, Ok, Err, length, take, drop, replicate, subst, arith, refl, sym, ap, ◌∙◌}
 use Rattle.std.proofs.lemmas.List.{length-append, length-replicate, take-append-drop}
 use Rattle.base64.specs.Engines.{url_safe}
-use Rattle.base64.specs.GeneralPurpose.{encode_of, decode_of, engine_symbols, IsBytes}
+use Rattle.base64.specs.GeneralPurpose.{decode_of, engine_symbols, IsBytes}
 use Rattle.base64.specs.Rfc4648.{encode_symbols, padding_len}
 use Rattle.base64.specs.declared.decode.DecodeError.{DecodeError}
 use Rattle.base64.proofs.RoundTrip.{length-encode_symbols}
@@ -63,7 +63,3 @@ none_by_text text none key is = none key (as_base64url text key is)
 -- what is that of another number of bytes is no key's
 pub none_by_count : (text bytes : List ℕ) → IsBase64url text bytes → length bytes ≢ 32 → IsNoKeyText text
 none_by_count text bytes is far key of = far (ap length (one_base64url text bytes key is (as_base64url text key of)) ∙ of.fits.len)
-
--- what is that of 32 bytes is a key's
-pub some_key : (text key : List ℕ) → IsBase64url text key → length key ≡ 32 → IsKeyText text key
-some_key text key is len = record { fits = record { len = len; fits = is.fits }; spelled = is.spelled }

@@ -4,3 +4,4 @@ pub mod Base64Laws
 pub mod TokenLaws
 pub mod PaddingLaws
 pub mod OpenLaws
+pub mod Unique

@@ -1,16 +1,15 @@
 -- A text whose bytes open is the token of what they open to.
-use Rattle.std.proofs.Common.{◌≡◌, ℕ, zero, suc, ◌+◌, ◌-◌, ◌*◌, ◌/◌, ◌%◌, ◌^◌, ◌<◌, ◌≤◌, List, [], ◌∷◌, ◌++◌, Result, Ok, Err, length, get_or, take, drop, arith, refl, sym, ap, subst, ◌∙◌, append_assoc}
+use Rattle.std.proofs.Common.{◌≡◌, ℕ, ◌+◌, ◌-◌, ◌^◌, ◌<◌, ◌≤◌, List, [], ◌∷◌, ◌++◌, Result, Ok, Err, length, get_or, take, drop, arith, refl, sym, ap, subst, ◌∙◌, append_assoc}
 use Rattle.std.specs.Prelude.{IfOk}
 use Rattle.std.specs.Int.{w64, to_be_bytes, from_be_bytes}
-use Rattle.std.proofs.lemmas.List.{drop_more, drop-drop, length-take, length-drop, take-append-drop, take-append-le, get_or-take, get_or-drop}
+use Rattle.std.proofs.lemmas.List.{drop-drop, length-take, length-drop, take-append-drop, take-append-le, get_or-drop}
 use Rattle.std.proofs.lemmas.Nat.{be_bytes_8}
 use Rattle.base64.specs.GeneralPurpose.{IsBytes}
 use Rattle.base64.proofs.EngineFacts.{front_bytes}
-use Rattle.kms_aes.specs.Cipher.{IsBlock}
 use Rattle.kms_fernet.specs.Hmac.{hmac}
-use Rattle.kms_fernet.specs.Cbc.{cbc, padded, EndsInPadding}
+use Rattle.kms_fernet.specs.Cbc.{cbc, padded}
 use Rattle.kms_fernet.specs.Key.{signing_key, enciphering_key, base64url, IsBase64url}
-use Rattle.kms_fernet.specs.Token.{signed_part, token_bytes, Opens, IsFramed, IsSigned, IsDeciphered, OpensBytes, iv_of, ciphertext_len, ciphertext_of, signed_of, tag_of}
+use Rattle.kms_fernet.specs.Token.{signed_part, token_bytes, Opens, IsFramed, OpensBytes, iv_of, ciphertext_len, ciphertext_of, signed_of}
 use Rattle.kms_fernet.specs.declared.open_fault.OpenFault.{OpenFault}
 use Rattle.kms_fernet.proofs.CbcLaws.{take-add}
 use Rattle.kms_fernet.proofs.PaddingLaws.{padded-front}

@@ -1,5 +1,5 @@
 -- Fernet tokens (the Fernet specification, version 0x80, "Token format" and "Verifying").
-use Rattle.std.specs.Prelude.{◌≡◌, ◌≢◌, ℕ, ◌+◌, ◌-◌, ◌%◌, ◌^◌, ◌<◌, ◌≤◌, List, [], ◌∷◌, ◌++◌, length, take, drop, slice_index}
+use Rattle.std.specs.Prelude.{◌≡◌, ◌≢◌, ℕ, ◌-◌, ◌%◌, ◌^◌, ◌<◌, ◌≤◌, List, ◌∷◌, ◌++◌, length, take, drop, slice_index}
 use Rattle.std.specs.Int.{w64, to_be_bytes}
 use Rattle.base64.specs.GeneralPurpose.{IsBytes}
 use Rattle.kms_aes.specs.Cipher.{IsBlock}
@@ -32,6 +32,14 @@ pub record Opens (key text plain : List ℕ) : Type 0 where
   pub iv_fits : IsBlock iv
   pub plain_fits : IsBytes plain
   pub token : IsToken key moment iv plain text
+
+-- it opens to nothing else
+abbrev pub OpensToOne : List ℕ → List ℕ → List ℕ → Type 0
+OpensToOne key text plain = (other : List ℕ) → Opens key text other → other ≡ plain
+
+-- it does not open
+abbrev pub OpensToNone : List ℕ → List ℕ → Type 0
+OpensToNone key text = (plain : List ℕ) → ¬ Opens key text plain
 
 -- ---- what stands in the bytes of a token
 

@@ -1,5 +1,7 @@
 // Fernet keys and their texts.
-ghost use Rattle.kms_fernet.specs.Key.{IsKeyText};
+ghost use Rattle.std.specs.Prelude.{◌≡◌};
+ghost use Rattle.kms_fernet.specs.Hmac.{hmac};
+ghost use Rattle.kms_fernet.specs.Key.{signing_key, enciphering_key, IsKeyText};
 
 use crate::base64url::decoded;
 use crate::hmac::mac;
@@ -11,7 +13,7 @@ use std::marker::Model;
 /// bytes.
 #[derive(Clone, Copy)]
 pub struct FernetKey {
-    bytes: [u8; 32],
+    pub(crate) bytes: [u8; 32],
 }
 
 impl Model for FernetKey {
@@ -57,28 +59,28 @@ impl FernetKey {
         FernetKey { bytes }
     }
 
-    // The key that enciphers, with its key schedule.
-    pub(crate) fn cipher(&self) -> Key
-        ensures { result ≡ enciphering_key self.now }
-    {
-        let mut bytes = [0; 16];
-        bytes.copy_from_slice(&self.bytes[16..]);
-        Key::new(bytes)
-    }
-
-    // The tag of these bytes under the key that signs.
-    pub(crate) fn tag(&self, signed: &[u8]) -> [u8; 32]
-        ensures { result ≡ hmac (signing_key self.now) signed.now }
-    {
-        mac(&self.bytes[..16], signed, &[])
-    }
-
     /// The bytes.
     pub fn bytes(&self) -> [u8; 32]
         ensures { result ≡ self.now }
     {
         self.bytes
     }
+}
+
+/// The half that enciphers, with its key schedule.
+pub(crate) fn cipher(key: &[u8; 32]) -> Key
+    ensures { result ≡ enciphering_key key.now }
+{
+    let mut bytes = [0; 16];
+    bytes.copy_from_slice(&key[16..]);
+    Key::new(bytes)
+}
+
+/// The tag of these bytes under the half that signs.
+pub(crate) fn tag(key: &[u8; 32], signed: &[u8]) -> [u8; 32]
+    ensures { result ≡ hmac (signing_key key.now) signed.now }
+{
+    mac(&key[..16], signed, &[])
 }
 
 /// The text of a key of these bytes.

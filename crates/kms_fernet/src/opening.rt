@@ -1,11 +1,11 @@
 // Opening (the Fernet specification, "Verifying").
-ghost use Rattle.std.specs.Prelude.{◌≡◌, ◌≢◌, ◌↔◌, ℕ, ◌+◌, ◌*◌, ◌/◌, ◌≤◌, length, take, replicate, IsTrue, MatchOption, IfOk, OnOk, IfErr};
+ghost use Rattle.std.specs.Prelude.{◌≡◌, ◌≢◌, ◌↔◌, ℕ, ◌+◌, ◌*◌, ◌/◌, ◌≤◌, length, take, replicate, IsTrue, MatchOption, IfOk, OnOk, IfErr, OnErr};
 ghost use Rattle.kms_fernet.specs.Cbc.{EndsInPadding};
-ghost use Rattle.kms_fernet.specs.Token.{IsFramed, IsSigned, OpensBytes, Opens, IsBytesFault, IsFault};
+ghost use Rattle.kms_fernet.specs.Token.{IsFramed, IsSigned, OpensBytes, Opens, OpensToOne, OpensToNone, IsBytesFault, IsFault};
 
 use crate::base64url::decoded;
 use crate::cbc::decipher;
-use crate::key::FernetKey;
+use crate::key::{FernetKey, cipher, tag};
 use crate::open_fault::OpenFault;
 use kms_world::Bytes;
 use std::alloc::Global;
@@ -51,7 +51,7 @@ fn padding(text: &[u8]) -> Option<usize>
 }
 
 // Whether the bytes have the parts of a token and its tag.
-fn check(key: &FernetKey, raw: &[u8]) -> Result<(), OpenFault>
+fn check(key: &[u8; 32], raw: &[u8]) -> Result<(), OpenFault>
     ensures framed { OnOk result (IsFramed raw.now) }
     ensures signed { OnOk result (IsSigned key.now raw.now) }
     ensures err { IfErr result (IsBytesFault key.now raw.now) }
@@ -66,7 +66,7 @@ fn check(key: &FernetKey, raw: &[u8]) -> Result<(), OpenFault>
         return Err(OpenFault::Length);
     }
     let end = raw.len() - 32;
-    let tag = key.tag(&raw[..end]);
+    let tag = tag(key, &raw[..end]);
     if !same_tag(&raw[end..], &tag) {
         return Err(OpenFault::Mac);
     }
@@ -74,7 +74,7 @@ fn check(key: &FernetKey, raw: &[u8]) -> Result<(), OpenFault>
 }
 
 // Deciphers a token's bytes to their front, and says how many plain bytes stand there then.
-fn open_bytes(key: &FernetKey, raw: &mut [u8]) -> Result<usize, OpenFault>
+fn open_bytes(key: &[u8; 32], raw: &mut [u8]) -> Result<usize, OpenFault>
     ensures within { IfOk result (λ n. n ≤ length raw.new) }
     ensures ok { IfOk result (λ n. OpensBytes key.now raw.old (take n raw.new)) }
     ensures err { IfErr result (IsBytesFault key.now raw.old) }
@@ -83,7 +83,7 @@ fn open_bytes(key: &FernetKey, raw: &mut [u8]) -> Result<usize, OpenFault>
     let len = raw.len() - 57;
     let mut iv = [0; 16];
     iv.copy_from_slice(&raw[9..25]);
-    decipher(&key.cipher(), &iv, raw, 25, len / 16);
+    decipher(&cipher(key), &iv, raw, 25, len / 16);
     match padding(&raw[..len]) {
         Some(count) => Ok(len - count),
         None => Err(OpenFault::Padding),
@@ -91,11 +91,13 @@ fn open_bytes(key: &FernetKey, raw: &mut [u8]) -> Result<usize, OpenFault>
 }
 
 /// Opens a token at the front of the room, and says how many plain bytes stand there then.
-pub(crate) fn open_into(key: &FernetKey, token: &[u8], room: &mut [u8]) -> Result<usize, OpenFault>
+pub(crate) fn open_into(key: &[u8; 32], token: &[u8], room: &mut [u8]) -> Result<usize, OpenFault>
     requires { (length token.now + 3) / 4 * 3 ≤ length room.old }
     ensures within { IfOk result (λ n. n ≤ length room.new) }
     ensures ok { IfOk result (λ n. Opens key.now token.now (take n room.new)) }
+    ensures only { IfOk result (λ n. OpensToOne key.now token.now (take n room.new)) }
     ensures err { IfErr result (IsFault key.now token.now) }
+    ensures none { OnErr result (OpensToNone key.now token.now) }
 {
     match decoded(token, room) {
         Some(n) => open_bytes(key, &mut room[..n]),
@@ -107,13 +109,19 @@ pub(crate) fn open_into(key: &FernetKey, token: &[u8], room: &mut [u8]) -> Resul
 /// for the bytes that stand in the token.
 pub fn unseal(alloc: Global, key: &FernetKey, token: &[u8]) -> Result<Bytes, OpenFault>
     ensures ok { IfOk result (λ plain. Opens key.now token.now plain) }
+    ensures only { IfOk result (λ plain. OpensToOne key.now token.now plain) }
     ensures err { IfErr result (λ fault. fault ≢ OpenFault.NoMemory → IsFault key.now token.now fault) }
+    ensures none { IfErr result (λ fault. fault ≢ OpenFault.NoMemory → OpensToNone key.now token.now) }
 {
     let Ok(room) = vec![in alloc; 0u8; token.len().div_ceil(4) * 3] else {
         return Err(OpenFault::NoMemory);
     };
     let mut room = room;
-    let len = open_into(key, token, &mut room)?;
-    room.truncate(len);
-    Ok(Bytes::from_vec(room))
+    match open_into(&key.bytes, token, &mut room) {
+        Ok(len) => {
+            room.truncate(len);
+            Ok(Bytes::from_vec(room))
+        }
+        Err(fault) => Err(fault),
+    }
 }

@@ -5,7 +5,7 @@ ghost use Rattle.kms_fernet.specs.Key.{base64url, enciphering_key};
 ghost use Rattle.kms_fernet.specs.Token.{signed_part, token_bytes, IsToken};
 
 use crate::cbc::encipher;
-use crate::key::FernetKey;
+use crate::key::{FernetKey, cipher, tag};
 use base64::engine::general_purpose::URL_SAFE;
 use kms_world::{Bytes, NoMemory};
 use std::alloc::Global;
@@ -57,7 +57,7 @@ fn encode_in_place(text: &mut [u8], from: usize)
 }
 
 // Writes what is signed.
-fn write_signed(key: &FernetKey, moment: u64, iv: &[u8; 16], plain: &[u8], out: &mut [u8])
+fn write_signed(key: &[u8; 32], moment: u64, iv: &[u8; 16], plain: &[u8], out: &mut [u8])
     requires { length out.old ≡ 25 + length plain.now + padding_len (length plain.now) }
     ensures { out.new ≡ signed_part moment iv.now (cbc (enciphering_key key.now) iv.now (padded plain.now)) }
 {
@@ -65,17 +65,17 @@ fn write_signed(key: &FernetKey, moment: u64, iv: &[u8; 16], plain: &[u8], out: 
     put(out, 1, &moment.to_be_bytes());
     put(out, 9, iv);
     write_padded(plain, &mut out[25..]);
-    encipher(&key.cipher(), iv, &mut out[25..]);
+    encipher(&cipher(key), iv, &mut out[25..]);
 }
 
 // Writes the bytes of a token.
-fn write_bytes(key: &FernetKey, moment: u64, iv: &[u8; 16], plain: &[u8], raw: &mut [u8])
+fn write_bytes(key: &[u8; 32], moment: u64, iv: &[u8; 16], plain: &[u8], raw: &mut [u8])
     requires { length raw.old ≡ 57 + length plain.now + padding_len (length plain.now) }
     ensures { raw.new ≡ token_bytes key.now moment iv.now plain.now }
 {
     let end = raw.len() - 32;
     write_signed(key, moment, iv, plain, &mut raw[..end]);
-    let tag = key.tag(&raw[..end]);
+    let tag = tag(key, &raw[..end]);
     raw[end..].copy_from_slice(&tag);
 }
 
@@ -88,7 +88,7 @@ fn token_len(plain_len: usize) -> usize
 }
 
 /// Writes the token of the plain bytes, which fills the room.
-pub(crate) fn seal_into(key: &FernetKey, moment: u64, iv: &[u8; 16], plain: &[u8], text: &mut [u8])
+pub(crate) fn seal_into(key: &[u8; 32], moment: u64, iv: &[u8; 16], plain: &[u8], text: &mut [u8])
     requires most { length plain.now ≤ 65536 }
     requires room { length text.old ≡ (57 + length plain.now + padding_len (length plain.now) + 2) / 3 * 4 }
     ensures { IsToken key.now moment iv.now plain.now text.new }
@@ -112,6 +112,6 @@ pub fn seal(
 {
     let size = (token_len(plain.len()) + 2) / 3 * 4;
     let mut text = vec![in alloc; 0u8; size]?;
-    seal_into(key, moment, &iv, plain, &mut text);
+    seal_into(&key.bytes, moment, &iv, plain, &mut text);
     Ok(Bytes::from_vec(text))
 }

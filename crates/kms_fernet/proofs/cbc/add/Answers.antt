@@ -1,4 +1,4 @@
-use Rattle.std.proofs.Common.{◌≡◌, List, ℕ, arith, ap, ◌∙◌}
+use Rattle.std.proofs.Common.{List, ℕ, arith, ap, ◌∙◌}
 use Rattle.kms_aes.specs.Field.{sum_of}
 use Rattle.kms_aes.proofs.States.{sum_of-more, sum_of-all, sum_of-twice}
 use Rattle.kms_fernet.proofs.cbc.add.Goals as goal

@@ -1,8 +1,7 @@
 use Rattle.std.proofs.Common.{rules, ◌≡◌, ℕ, List, ◌+◌, ◌-◌, ◌*◌, ◌/◌, ◌≤◌, ◌++◌, length, take, drop, arith, refl, ap, sym, ◌∙◌}
 use Rattle.std.proofs.lemmas.List.{places}
 use Rattle.std.proofs.lemmas.Slice.{take-put_mid, drop-put_mid}
-use Rattle.kms_fernet.specs.Cbc.{cbc}
-use Rattle.kms_fernet.proofs.CbcLaws.{chain, cbc-chain, drop-add, enciphered_more, enciphered_all}
+use Rattle.kms_fernet.proofs.CbcLaws.{cbc-chain, drop-add, enciphered_more, enciphered_all}
 use Rattle.kms_fernet.proofs.cbc.encipher.Goals as goal
 
 pub loop-i-init : goal.loop-i-init

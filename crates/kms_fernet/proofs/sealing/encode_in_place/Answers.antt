@@ -1,4 +1,4 @@
-use Rattle.std.proofs.Common.{◌≡◌, ◌≤◌, ◌+◌, ◌-◌, ◌*◌, ◌/◌, ℕ, length, take, drop, arith, refl, sym, subst}
+use Rattle.std.proofs.Common.{◌≡◌, ◌+◌, ◌-◌, ◌*◌, ◌/◌, ℕ, length, take, drop, arith, refl, sym, subst}
 use Rattle.base64.specs.Engines.{url_safe}
 use Rattle.base64.proofs.EngineFacts.{encode_of-nil}
 use Rattle.kms_fernet.specs.Key.{base64url}

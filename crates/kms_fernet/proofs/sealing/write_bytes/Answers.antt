@@ -1,5 +1,5 @@
-use Rattle.std.proofs.Common.{◌≡◌, ◌≤◌, ◌+◌, ◌-◌, ◌++◌, ◌∙◌, ℕ, List, length, drop, ap, arith, sym}
-use Rattle.std.proofs.lemmas.List.{length-drop, length-take, length-append}
+use Rattle.std.proofs.Common.{◌≡◌, ◌-◌, length, drop, arith}
+use Rattle.std.proofs.lemmas.List.{length-take}
 use Rattle.kms_fernet.proofs.TokenLaws.{token_written}
 use Rattle.kms_fernet.proofs.sealing.write_bytes.Goals as goal
 

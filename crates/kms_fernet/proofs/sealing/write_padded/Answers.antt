@@ -1,4 +1,4 @@
-use Rattle.std.proofs.Common.{◌≡◌, ◌++◌, ◌∙◌, ◌-◌, ℕ, List, length, drop, replicate, ap, arith}
+use Rattle.std.proofs.Common.{◌++◌, ◌-◌, length, drop, ap, arith}
 use Rattle.std.proofs.lemmas.List.{length-drop, length-append, length-take}
 use Rattle.kms_fernet.proofs.TokenLaws.{padded_written}
 use Rattle.kms_fernet.proofs.sealing.write_padded.Goals as goal

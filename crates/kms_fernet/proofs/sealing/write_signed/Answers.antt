@@ -1,7 +1,7 @@
-use Rattle.std.proofs.Common.{◌≡◌, ◌≤◌, ◌+◌, ◌-◌, ◌∙◌, ℕ, List, length, take, drop, ap, arith, sym}
+use Rattle.std.proofs.Common.{◌≡◌, ◌+◌, ◌-◌, ◌∙◌, ℕ, List, length, take, drop, ap, arith}
 use Rattle.std.proofs.lemmas.List.{length-drop, length-take}
 use borrow.Rule.Slice.PartMut.{put_mid}
-use Rattle.kms_fernet.specs.Cbc.{cbc, padded}
+use Rattle.kms_fernet.specs.Cbc.{cbc}
 use Rattle.kms_fernet.specs.Key.{enciphering_key}
 use Rattle.kms_fernet.specs.Token.{signed_part}
 use Rattle.kms_fernet.proofs.TokenLaws.{body_read, length-put_end, signed_written}
