@@ -1,5 +1,5 @@
 -- What is shown of a secret.
-use Rattle.std.specs.Prelude.{List, [], option_map}
+use Rattle.std.specs.Prelude.{[], option_map}
 use Rattle.kms_world.specs.declared.payload.Payload.{Payload}
 use Rattle.kms_world.specs.declared.secret.SecretRow.{SecretRow}
 

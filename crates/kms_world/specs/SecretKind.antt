@@ -1,5 +1,5 @@
 -- Kinds of secrets, by their words (Barbican API v1, secret types).
-use Rattle.std.specs.Prelude.{ℕ, List, codes, Option, Some, None, Bool, if◌then◌else◌}
+use Rattle.std.specs.Prelude.{ℕ, List, codes, Option, Some, None, if◌then◌else◌}
 use Rattle.std.specs.Str.{bytes_eq}
 use Rattle.kms_world.specs.declared.secret.SecretKind.{SecretKind}
 use Rattle.kms_world.specs.declared.secret.SecretKind.TheVariants.{Symmetric, Public, Private, Passphrase, Certificate, Opaque}

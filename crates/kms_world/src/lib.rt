@@ -4,6 +4,7 @@
 mod acl;
 mod action;
 mod answer;
+mod body;
 mod bytes;
 mod caller;
 mod container;
@@ -24,6 +25,7 @@ mod text;
 pub use acl::{AclRow, Names};
 pub use action::{Action, Rule, Why};
 pub use answer::{Answer, Link};
+pub use body::{AclBody, QuotaBody, QuotaValues, ReadBody, Texts};
 pub use bytes::{Bytes, NoMemory};
 pub use caller::{Caller, Roles};
 pub use container::{ConsumerRow, ContainerKind, ContainerRow, Members};

@@ -1,5 +1,5 @@
 // What no clause says: that calls succeed, and the layout of ids against an example from outside.
-use crate::{Bytes, Id, Members, Name, Names, NoMemory, Pairs, SecretKind, Text, id_of};
+use crate::{Bytes, Id, Members, Name, Names, NoMemory, Pairs, SecretKind, Text, Texts, id_of};
 use std::alloc::Global;
 use std::rt::HostRuntime;
 
@@ -27,6 +27,8 @@ fn made(alloc: Global) -> Result<(), NoMemory> {
     bytes.push_all(b"cd")?;
     let mut members = Members::new(alloc);
     members.push(None, Id(1))?;
+    let mut texts = Texts::new(alloc);
+    texts.push(Text::of(alloc, "u1")?)?;
     let mut names = Names::new(alloc);
     if let Some(name) = Name::read(b"u1") {
         names.push(name)?;
