@@ -1,0 +1,9 @@
+pub mod EndLaws
+pub mod EventLaws
+pub mod GiveLaws
+pub mod OwingLaws
+pub mod ReplyLaws
+pub mod TurnLaws
+pub mod SinceLaws
+pub mod PhraseLaws
+pub mod Refused

@@ -1,0 +1,47 @@
+-- Each turn answers a message or takes a byte, and a line has no more of both than a bound.
+use Rattle.std.proofs.Common.{◌≡◌, ℕ, ◌+◌, ◌*◌, ◌≤◌, ◌<◌, List, [], ◌++◌, length, Bool, ap, ◌∙◌, arith, length-append}
+use Rattle.kms_http.specs.Reading.{Reading}
+use Rattle.kms_http.specs.Stream.{front, longest}
+use Rattle.kms_http.specs.Stream.Front.{Whole, Part}
+use Rattle.kms_http.specs.declared.request.Request.{Request}
+use Rattle.kms_serve.specs.Turns.{IsBounded, Progress}
+use Rattle.kms_serve.specs.declared.serving.Serving.{Serving}
+use Rattle.kms_http.proofs.LengthLaws.{whole_shorter, part_short}
+
+-- bytes were fed to a reader that holds a part of a message
+pub fed_more : (s t : Serving) (bytes : List ℕ) → t.count ≡ s.count → t.reader ≡ record { held = s.reader.held ++ bytes; passed = s.reader.passed }
+    → 0 < length bytes → length bytes ≤ 65536 → front s.reader.held ≡ Part → IsBounded s → Progress s t
+fed_more s t bytes count reader some fits part bounded =
+    let held : length t.reader.held ≡ length s.reader.held + length bytes = ap (λ (r : Reading). length r.held) reader ∙ length-append s.reader.held bytes in
+    let passed : t.reader.passed ≡ s.reader.passed = ap (λ (r : Reading). r.passed) reader in
+    let short = part_short s.reader.held part in
+    record {
+      more = omega (arith, held, passed, count, some);
+      bounded = record {
+        few = omega (arith, count, bounded.few);
+        passed = rw (passed, count) bounded.passed;
+        held = omega (arith, held, short, fits);
+      };
+    }
+
+-- what is left to be said of the messages after one was taken out
+pub taken_passed : (s t : Serving) (q : Request) (c : Bool) → front s.reader.held ≡ Whole q c t.reader.held
+    → t.reader.passed + length t.reader.held ≡ s.reader.passed + length s.reader.held → t.count ≡ s.count → IsBounded s
+    → t.reader.passed ≤ (t.count + 1) * longest
+taken_passed s t q c whole place count bounded =
+    let shorter = whole_shorter s.reader.held q c t.reader.held whole in
+    let before : s.reader.passed ≤ t.count * 778 = rw count bounded.passed in
+    let sum : (t.count + 1) * 778 ≡ t.count * 778 + 778 = omega arith in
+    omega (arith, shorter.1, place, before, sum)
+
+pub taken_held : (s t : Serving) (q : Request) (c : Bool) → front s.reader.held ≡ Whole q c t.reader.held → IsBounded s → length t.reader.held ≤ longest + 65536
+taken_held s t q c whole bounded =
+    let shorter = whole_shorter s.reader.held q c t.reader.held whole in
+    omega (arith, shorter.0, bounded.held)
+
+-- before the first turn
+pub bounded_first : (s : Serving) → s.reader ≡ record { held = []; passed = 0 } → s.count ≡ 0 → IsBounded s
+bounded_first s reader count =
+    let held : length s.reader.held ≡ 0 = ap (λ (r : Reading). length r.held) reader in
+    let passed : s.reader.passed ≡ 0 = ap (λ (r : Reading). r.passed) reader in
+    record { few = omega (arith, count); passed = omega (arith, passed); held = omega (arith, held) }

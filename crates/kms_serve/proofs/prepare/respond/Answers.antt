@@ -1,0 +1,12 @@
+use Rattle.std.proofs.Common.{◌≡◌, is_some, true, sym, subst}
+use Rattle.http.specs.StatusCode.{reason_phrase}
+use Rattle.kms_json.proofs.Phrases.{HasPhrase, reason_phrase-reply_of}
+use Rattle.kms_world.specs.declared.reply.Reply.{Reply}
+use Rattle.kms_serve.proofs.PhraseLaws.{asked_phrase}
+use Rattle.kms_serve.proofs.prepare.respond.Goals as goal
+
+pub print-requires-clause-status : goal.print-requires-clause-status
+print-requires-clause-status g c =
+    let has = subst HasPhrase (sym c.in_ok-answer.ensures.answer) (asked_phrase c.args.engine.now.state c.args.request c.args.moment) in
+    subst (λ (r : Reply). is_some (reason_phrase r.status) ≡ true) (sym c.in_ok-reply.ensures)
+    (reason_phrase-reply_of c.args.endpoint.now c.in_ok-answer.field-0.answer has)

@@ -1,0 +1,10 @@
+pub mod Answered
+pub mod Ends
+pub mod Events
+pub mod Owed
+pub mod Owing
+pub mod Replies
+pub mod Status
+pub mod Theorem
+pub mod Turns
+pub mod Words

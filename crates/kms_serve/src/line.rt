@@ -1,0 +1,205 @@
+// Serving a line, in turns.
+ghost use Rattle.std.specs.Prelude.{◌≡◌, ◌≢◌, ◌+◌, ◌*◌, ◌<◌, ◌≤◌, ◌||◌, ◌==◌, ℕ, List, Option, Bool, length, IfOk};
+ghost use Rattle.kms_host.specs.History.{History, WhereTold};
+ghost use Rattle.kms_host.specs.Line.{IsOpen};
+ghost use Rattle.kms_host.specs.Moment.{Since};
+ghost use Rattle.kms_http.specs.Stream.{front, longest};
+ghost use Rattle.kms_http.specs.Stream.Front.{Bad, Part};
+ghost use Rattle.kms_serve.specs.Events.{most};
+ghost use Rattle.kms_serve.specs.Owing.{EndedAt};
+ghost use Rattle.kms_serve.specs.Theorem.{first_state};
+ghost use Rattle.kms_serve.specs.Turns.{Good, Left, IsTaken, IsBounded, GoesOn, HasCauses, fed};
+ghost use Rattle.kms_serve.specs.declared.serving.Serving.{Serving as Session};
+ghost use Rattle.kms_world.specs.State.{State};
+
+use crate::give::give_all;
+use crate::owed::owed_slice;
+use crate::prepare::prepare;
+use crate::serving::{Serving, Turn};
+use crate::status::Status;
+use kms_core::Engine;
+use kms_host::Host;
+use kms_http::{Read, Reader, Request};
+use kms_model::Request as Asked;
+use kms_world::{NoMemory, Refusal};
+use std::alloc::Global;
+
+/// A line is served up to this number of requests.
+const MOST: u64 = 10_000_000;
+
+/// How many bytes are taken at once, at most.
+const ROOM: usize = 65536;
+
+// The tag of the ids that are given in memory.
+const TAG: u64 = 0x0012_3456_789a_bcde;
+
+// More bytes of the line, or its end. What the reader holds is the begin of a message, or nothing.
+fn take_more<H: Host>(host: &mut H, s: &mut Serving, room: &mut [u8]) -> Turn
+    requires room { length room.old ≡ 65536 }
+    requires part { front s.old.reader.held ≡ Part }
+    requires bounded { IsBounded s.old }
+    requires open_line { WhereTold (H.history host.old) (IsOpen 0) }
+    ensures good { (endpoint : List ℕ) (start : Option History) (first : State) →
+        Good endpoint first start (H.history host.old) s.old → Left endpoint first start (H.history host.new) s.new result }
+    ensures open_line { result ≡ Turn.Went → WhereTold (H.history host.new) (IsOpen 0) }
+    ensures goes { GoesOn s.old s.new result }
+    ensures causes { HasCauses (H.faults host.old) (H.faults host.new) result }
+{
+    let Ok(count) = host.take(0, room) else {
+        return Turn::Ended(Status::LinkFault);
+    };
+    if count == 0 {
+        host.shut(0);
+        return if s.reader.is_empty() {
+            Turn::Ended(Status::Done)
+        } else {
+            Turn::Ended(Status::Rest(s.reader.passed()))
+        };
+    }
+    match s.reader.feed(&room[..count]) {
+        Ok(()) => Turn::Went,
+        Err(_) => Turn::Ended(Status::NoMemory),
+    }
+}
+
+// The reply to the next message is the last on the line.
+fn is_last(count: u64, close: bool) -> bool
+    requires { count < most }
+    ensures { result ≡ (close || (count + 1 == most)) }
+{
+    close || count + 1 == MOST
+}
+
+// Answers the request that was taken out of the reader.
+fn serve_request<H: Host>(
+    alloc: Global,
+    endpoint: &str,
+    host: &mut H,
+    s: &mut Serving,
+    request: Request,
+    close: bool,
+) -> Turn
+    requires few { s.old.count < most }
+    requires passed { s.old.reader.passed ≤ (s.old.count + 1) * longest }
+    requires held { length s.old.reader.held ≤ longest + 65536 }
+    requires open_line { WhereTold (H.history host.old) (IsOpen 0) }
+    ensures good { (start : Option History) (first : State) (before : Session) → IsTaken before s.old request close →
+        Good endpoint.now first start (H.history host.old) before → Left endpoint.now first start (H.history host.new) s.new result }
+    ensures open_line { result ≡ Turn.Went → WhereTold (H.history host.new) (IsOpen 0) }
+    ensures goes { GoesOn s.old s.new result }
+    ensures causes { HasCauses (H.faults host.old) (H.faults host.new) result }
+{
+    let last = is_last(s.count, close);
+    let Request { caller, op } = request;
+    let owed = prepare(
+        alloc,
+        endpoint,
+        &mut s.engine,
+        host,
+        Asked::Asking(caller, op),
+        last,
+    );
+    s.count += 1;
+    match give_all(host, 0, owed_slice(&owed)) {
+        Ok(()) => {}
+        Err(_) => return Turn::Ended(Status::LinkFault),
+    }
+    if last {
+        host.shut(0);
+        return Turn::Ended(Status::Done);
+    }
+    Turn::Went
+}
+
+// Refuses what the reader holds, which is no message.
+fn refuse<H: Host>(alloc: Global, endpoint: &str, host: &mut H, s: &mut Serving) -> Turn
+    requires bad { front s.old.reader.held ≡ Bad }
+    requires few { s.old.count < most }
+    requires open_line { WhereTold (H.history host.old) (IsOpen 0) }
+    ensures good { (start : Option History) (first : State) →
+        Good endpoint.now first start (H.history host.old) s.old → Left endpoint.now first start (H.history host.new) s.new result }
+    ensures ends { result ≢ Turn.Went }
+    ensures goes { GoesOn s.old s.new result }
+    ensures causes { HasCauses (H.faults host.old) (H.faults host.new) result }
+{
+    let owed = prepare(
+        alloc,
+        endpoint,
+        &mut s.engine,
+        host,
+        Asked::Refusing(Refusal::BadMessage),
+        true,
+    );
+    s.count += 1;
+    match give_all(host, 0, owed_slice(&owed)) {
+        Ok(()) => {}
+        Err(_) => return Turn::Ended(Status::LinkFault),
+    }
+    host.shut(0);
+    Turn::Ended(Status::Unreadable(s.reader.passed()))
+}
+
+// One turn of the line: a message is answered, or more bytes are taken.
+fn take_turn<H: Host>(
+    alloc: Global,
+    endpoint: &str,
+    host: &mut H,
+    s: &mut Serving,
+    room: &mut [u8],
+) -> Turn
+    requires room { length room.old ≡ 65536 }
+    requires bounded { IsBounded s.old }
+    requires open_line { WhereTold (H.history host.old) (IsOpen 0) }
+    ensures good { (start : Option History) (first : State) →
+        Good endpoint.now first start (H.history host.old) s.old → Left endpoint.now first start (H.history host.new) s.new result }
+    ensures open_line { result ≡ Turn.Went → WhereTold (H.history host.new) (IsOpen 0) }
+    ensures goes { GoesOn s.old s.new result }
+    ensures causes { HasCauses (H.faults host.old) (H.faults host.new) result }
+{
+    match s.reader.next() {
+        Ok(Read::Message { request, close }) => serve_request(
+            alloc, endpoint, host, s, request, close,
+        ),
+        Ok(Read::Bad) => refuse(alloc, endpoint, host, s),
+        Ok(Read::More) => take_more(host, s, room),
+        Err(_) => Turn::Ended(Status::NoMemory),
+    }
+}
+
+fn zeros(alloc: Global, count: usize) -> Result<Vec<u8>, NoMemory>
+    ensures { IfOk result (λ room. length room.items ≡ count) }
+{
+    Ok(vec![in alloc; 0u8; count]?)
+}
+
+fn new_room(alloc: Global) -> Result<Vec<u8>, NoMemory>
+    ensures { IfOk result (λ room. length room.items ≡ 65536) }
+{
+    zeros(alloc, ROOM)
+}
+
+/// Serves line 0 from its first byte to its end, beginning with nothing stored.
+pub fn serve_line<H: Host>(alloc: Global, endpoint: &str, host: &mut H) -> Status
+    requires { WhereTold (H.history host.old) (IsOpen 0) }
+    ensures ended { Since (H.history host.old) (H.history host.new) (λ was calls. EndedAt endpoint.now first_state result calls) }
+    ensures words { result ≢ Status.Words }
+    ensures causes { HasCauses (H.faults host.old) (H.faults host.new) (Turn.Ended result) }
+{
+    let Ok(mut room) = new_room(alloc) else {
+        return Status::NoMemory;
+    };
+    let Ok(engine) = Engine::empty(alloc, TAG) else {
+        return Status::NoMemory;
+    };
+    let mut s = Serving {
+        engine,
+        reader: Reader::new(alloc),
+        count: 0,
+    };
+    loop {
+        match take_turn(alloc, endpoint, host, &mut s, &mut room) {
+            Turn::Went => {}
+            Turn::Ended(status) => return status,
+        }
+    }
+}

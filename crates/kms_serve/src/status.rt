@@ -1,0 +1,89 @@
+// How a run ended, as the operator sees it.
+ghost use Rattle.std.specs.Prelude.{◌≡◌, ◌+◌, ◌≤◌, ◌++◌, length, take, codes, decimal};
+ghost use Rattle.kms_serve.specs.Status.{code_of, line_of};
+
+use itoa::Buffer;
+
+/// How a run ended.
+#[derive(Clone, Copy, Debug, PartialEq, Eq)]
+pub enum Status {
+    /// all was served
+    Done,
+    /// the words of the command line are not understood
+    Words,
+    NoMemory,
+    /// the line failed
+    LinkFault,
+    /// the stream ends inside a message, which begins at this place, in bytes
+    Rest(u64),
+    /// what stands at this place of the stream, in bytes, is no message
+    Unreadable(u64),
+}
+
+// Writes a piece behind what stands before a place, and answers the place after it.
+fn put(room: &mut [u8; 192], at: usize, piece: &[u8]) -> usize
+    requires { at + length piece.now ≤ 192 }
+    ensures place { result ≡ at + length piece.now }
+    ensures text { take result room.new ≡ take at room.old ++ piece.now }
+{
+    let end = at + piece.len();
+    room[at..end].copy_from_slice(piece);
+    end
+}
+
+fn put_line(room: &mut [u8; 192], text: &[u8]) -> usize
+    requires { length text.now ≤ 100 }
+    ensures bound { result ≤ 192 }
+    ensures text { take result room.new ≡ codes "barbicand: " ++ text.now ++ codes "\n" }
+{
+    let at = put(room, 0, b"barbicand: ");
+    let at = put(room, at, text);
+    put(room, at, b"\n")
+}
+
+#[tactic(auto, using(std::proofs::lemmas::List::append_assoc))]
+fn put_place(room: &mut [u8; 192], text: &[u8], place: u64) -> usize
+    requires { length text.now ≤ 100 }
+    ensures bound { result ≤ 192 }
+    ensures text { take result room.new ≡ codes "barbicand: " ++ (text.now ++ decimal place) ++ codes "\n" }
+{
+    let mut buffer = Buffer::new();
+    let at = put(room, 0, b"barbicand: ");
+    let at = put(room, at, text);
+    let at = put(room, at, buffer.format(place).as_bytes());
+    put(room, at, b"\n")
+}
+
+impl Status {
+    /// The exit status of the process.
+    pub fn code(&self) -> u8
+        ensures { result ≡ code_of self.now }
+    {
+        match self {
+            Status::Done => 0,
+            Status::Words => 1,
+            Status::NoMemory => 4,
+            Status::LinkFault => 6,
+            Status::Rest(_) | Status::Unreadable(_) => 9,
+        }
+    }
+
+    /// Writes the line for the operator to the front of the room, and answers its length: 0 where all was served.
+    pub fn line(&self, room: &mut [u8; 192]) -> usize
+        ensures bound { result ≤ 192 }
+        ensures text { take result room.new ≡ line_of self.now }
+    {
+        match self {
+            Status::Done => 0,
+            Status::Words => put_line(room, b"words not understood"),
+            Status::NoMemory => put_line(room, b"out of memory"),
+            Status::LinkFault => put_line(room, b"link fault"),
+            Status::Rest(place) => put_place(
+                room,
+                b"stream ends inside a message at byte ",
+                *place,
+            ),
+            Status::Unreadable(place) => put_place(room, b"unreadable message at byte ", *place),
+        }
+    }
+}
