@@ -1,8 +1,8 @@
 // The engine and its calls.
-ghost use Rattle.std.specs.Prelude.{◌≡◌, ◌<◌, ◌^◌, IfOk, OnErr, IsTrue};
+ghost use Rattle.std.specs.Prelude.{◌≡◌, ◌<◌, ◌^◌, IfOk, is_some, OnErr, IsTrue};
 ghost use Rattle.kms_world.specs.State.{empty_state};
 ghost use Rattle.kms_world.specs.Times.{HasTimes, IsTimely};
-ghost use Rattle.kms_model.specs.Ask.{answer_to, state_after};
+ghost use Rattle.kms_model.specs.Ask.{answer_to, state_after, stores};
 ghost use Rattle.kms_core.specs.Steps.{after_step, Prepares};
 
 use crate::{AskFault, Asked, Step};
@@ -49,7 +49,8 @@ impl Engine {
     }
 
     /// The plain key manager's answer to an operation of a caller at a time in seconds since 1970, and the step that
-    /// it needs. No row changes. After a fault nothing has changed.
+    /// it needs: one exactly where the operation is accepted and writes. No row changes. After a fault nothing has
+    /// changed.
     pub fn ask<H: Host>(
         &mut self,
         host: &mut H,
@@ -60,6 +61,7 @@ impl Engine {
         requires { moment < 253402300800 }
         ensures answer { IfOk result (λ a. a.answer ≡ answer_to self.old.state caller.now op moment) }
         ensures step { IfOk result (λ a. Prepares a.step self.old.state (state_after self.old.state caller.now op moment) self.new.room) }
+        ensures stores { IfOk result (λ a. is_some a.step ≡ stores self.old.state caller.now op moment) }
         ensures times { IfOk result (λ a. HasTimes a.answer) }
         ensures same { self.new.state ≡ self.old.state }
         ensures host { host.new ≡ host.old }

@@ -1,6 +1,6 @@
 // Operations on secrets.
-ghost use Rattle.std.specs.Prelude.{◌≡◌, ◌<◌, IfOk, None, option_copied, find};
-ghost use Rattle.kms_model.specs.AskSecret.{is_secret, is_live, posted_answer, posted_state, secret_at, found_answer};
+ghost use Rattle.std.specs.Prelude.{◌≡◌, ◌<◌, IfOk, is_some, None, option_copied, find};
+ghost use Rattle.kms_model.specs.AskSecret.{is_secret, is_live, has_id, posted_answer, posted_state, secret_at, found_answer};
 ghost use Rattle.kms_core.specs.Steps.{Prepares};
 ghost use Rattle.kms_world.specs.Times.{HasTimes};
 
@@ -52,6 +52,7 @@ impl Engine {
         requires { moment < 253402300800 }
         ensures answer { IfOk result (λ a. a.answer ≡ posted_answer self.old.state) }
         ensures step { IfOk result (λ a. Prepares a.step self.old.state (posted_state self.old.state caller.now body moment) self.new.room) }
+        ensures stores { IfOk result (λ a. is_some a.step ≡ has_id self.old.state) }
         ensures times { IfOk result (λ a. HasTimes a.answer) }
         ensures same { self.new.state ≡ self.old.state }
     {

@@ -19,6 +19,7 @@ pub struct Asked {
 /// Why an operation has no answer. Nothing has changed.
 #[derive(Clone, Copy, Debug, PartialEq, Eq)]
 pub enum AskFault {
+    /// out of memory
     NoMemory,
 }
 

@@ -4,7 +4,9 @@ use kms_world::{Caller, Op, Refusal};
 /// What a message asks for: an operation of a caller, or it was refused before one was known.
 #[derive(Drop, Debug)]
 pub enum Request {
+    /// an operation of a caller
     Asking(Caller, Op),
+    /// refused before a caller was known
     Refusing(Refusal),
 }
 
@@ -18,6 +20,7 @@ pub struct Event {
 /// The fault that an event was answered with, if any.
 #[derive(Clone, Copy, Debug, PartialEq, Eq)]
 pub enum Mark {
+    /// answered by the plain key manager
     Unmarked,
     /// out of memory
     Memory,

@@ -61,7 +61,7 @@ impl Plain {
         }
     }
 
-    /// Answers the requests in their order. After `NoMemory` those before the one that wanted it are done.
+    /// Answers the requests in their order. After `NoMemory` nothing is said of the state: make another.
     pub fn run(&mut self, events: Vec<Event>) -> Result<Vec<Answer>, NoMemory>
         ensures answers { IfOk result (λ answers. map Some answers.items ≡ answers_of self.old events.items (unmarked events.items)) }
         ensures ok { OnOk result (self.new ≡ state_of self.old events.items (unmarked events.items)) }

@@ -1,12 +1,12 @@
 -- What each step of the program does to what it keeps.
-use Rattle.std.proofs.Common.{◌≡◌, inl, inr, ℕ, zero, suc, ◌+◌, ◌≤◌, ◌<◌, List, [], ◌∷◌, ◌++◌, length, take, false, Option, Some, None, Result, Ok, Err, refl, sym, ap, ◌∙◌, subst, arith, length-append}
+use Rattle.std.proofs.Common.{◌≡◌, inl, inr, ℕ, zero, suc, ◌+◌, ◌≤◌, ◌<◌, List, [], ◌∷◌, ◌++◌, length, take, false, Option, Some, None, Result, Ok, Err, refl, sym, ap, ◌∙◌, subst, arith, length-append, cond}
 use Rattle.std.specs.Prelude.{◌||◌}
 use Rattle.std.proofs.lemmas.List.{append_assoc, append-nil}
 use Rattle.kms_host.specs.Moment.{AtEach}
-use Rattle.kms_host.specs.Line.{taken, sent, times, failed_on, is_empty}
+use Rattle.kms_host.specs.Line.{taken, sent, times, failed_on, is_empty, is_shut}
 use Rattle.kms_host.specs.declared.call.Call.{Call}
 use Rattle.kms_host.specs.declared.call.Call.TheVariants.{Took, Gave, Shut, Told}
-use Rattle.kms_host.proofs.LineLaws.{sent-append, taken-gives, times-gives, at_end-gives, failed_on-append}
+use Rattle.kms_host.proofs.LineLaws.{sent-append, taken-gives, times-gives, at_end-gives, is_shut-gives, failed_on-append}
 use Rattle.kms_host.proofs.Moments.{at_now, at_map}
 use Rattle.kms_world.specs.State.{State}
 use Rattle.kms_model.specs.Run.{answer_at, state_at}
@@ -16,9 +16,9 @@ use Rattle.kms_http.specs.Stream.{front, After, after, Served, served}
 use Rattle.kms_http.specs.Stream.Front.{Bad, Part}
 use Rattle.kms_http.specs.Stream.After.{Going, Over, Broken}
 use Rattle.kms_http.specs.Stream.Served.{Unreadable}
-use Rattle.kms_serve.specs.Events.{LineEvent, events, event, most}
+use Rattle.kms_serve.specs.Events.{LineEvent, events, event, event_at, most}
 use Rattle.kms_serve.specs.Replies.{asked, state_by, reply_to, replies}
-use Rattle.kms_serve.specs.Answered.{Answered, InTurn, IsReady, IsNext}
+use Rattle.kms_serve.specs.Answered.{Answered, InTurn, IsReady, IsNext, IsOver, IsServed}
 use Rattle.kms_serve.specs.Ends.{AllGiven, EndsUnreadable}
 use Rattle.kms_serve.specs.Owed.{Prepares, OnlyLeft, Gives}
 use Rattle.kms_serve.specs.Owing.{on_line, OwingAt, GoodAt, EndedAt}
@@ -35,6 +35,7 @@ turn_marks endpoint first marks more [] within h = tt
 turn_marks endpoint first marks more (Took l n bytes ∷ calls) within h = record {
   of_line = h.of_line;
   of_size = h.of_size;
+  unended = h.unended;
   given = h.given ∙ sym (replies-marks 0 endpoint first (events calls) marks more within);
   rest = h.rest;
   goes_on = h.goes_on;
@@ -45,8 +46,16 @@ turn_marks endpoint first marks more (Gave l piece n ∷ calls) within h = recor
   rest = h.rest;
   next = replies-marks l endpoint first (events calls) marks more within ∙ h.next;
 }
-turn_marks endpoint first marks more (Shut l ∷ calls) within h = tt
-turn_marks endpoint first marks more (Told t ∷ calls) within h = tt
+turn_marks endpoint first marks more (Shut l ∷ calls) within h = record {
+  of_line = h.of_line;
+  once = h.once;
+  given = h.given ∙ sym (replies-marks 0 endpoint first (events calls) marks more within);
+  over = h.over;
+}
+turn_marks endpoint first marks more (Told t ∷ calls) within h =
+    let long = length-append (events calls) (cond (failed_on 0 calls) [] (event_at (length (events calls)) (taken 0 calls) t)) in
+    let fewer : length (events calls) ≤ length marks = omega (arith, within, long) in
+    h ∙ sym (replies-marks 0 endpoint first (events calls) marks more fewer)
 
 -- marks of later events change nothing that was said of earlier moments
 answered_marks : (endpoint : List ℕ) (first : State) (marks more : List Mark) (calls : List Call) → Answered endpoint first marks calls → Answered endpoint first (marks ++ more) calls
@@ -58,9 +67,14 @@ answered_marks endpoint first marks more calls a = record {
   still = a.still;
 }
 
+-- where nothing is owed, all replies were given
+all_given : (endpoint : List ℕ) (first : State) (s : Serving) (now : After) (calls : List Call) → (o : OwingAt endpoint first s now [] calls) → AllGiven endpoint first o.marks calls
+all_given endpoint first s now calls o = λ line. sym (o.owes line ∙ ap (λ z. sent line calls ++ z) (on_line-nil line) ∙ append-nil (sent line calls))
+
 -- A message was answered: its reply is owed behind the others.
 prepared_at : (endpoint : List ℕ) (first : State) (s t : Serving) (before now : After) (owed reply : List ℕ) (sv : Served) (time : ℕ) (mark : Mark) (calls : List Call)
-    → OwingAt endpoint first s before owed calls
+    → (o : OwingAt endpoint first s before owed calls)
+    → sent 0 calls ≡ replies 0 endpoint first (events calls) o.marks
     → events (Told time ∷ calls) ≡ events calls ++ event s.count time sv ∷ []
     → t.count ≡ s.count + 1
     → t.reader.passed + length t.reader.held ≡ s.reader.passed + length s.reader.held
@@ -68,7 +82,7 @@ prepared_at : (endpoint : List ℕ) (first : State) (s t : Serving) (before now 
     → reply ≡ reply_to endpoint (event s.count time sv) (answer_at s.engine.state (asked (event s.count time sv)) mark)
     → t.engine.state ≡ state_at s.engine.state (asked (event s.count time sv)) mark
     → OwingAt endpoint first t now (owed ++ reply) (Told time ∷ calls)
-prepared_at endpoint first s t before now owed reply sv time mark calls o one count place held reply_is state =
+prepared_at endpoint first s t before now owed reply sv time mark calls o whole one count place held reply_is state =
     let e : LineEvent = event s.count time sv in
     let marks : List Mark = o.marks ++ mark ∷ [] in
     let here : List ℕ = reply_to endpoint e (answer_at (state_by first (events calls) o.marks) (asked e) mark) in
@@ -87,7 +101,7 @@ prepared_at endpoint first s t before now owed reply sv time mark calls o one co
       within = omega (arith, long, length-append o.marks (mark ∷ []), o.marked);
       timed = omega (arith, long, length-append (times calls) (time ∷ []), a.timed);
       printed = λ line. (on_line line (owed ++ reply), more line);
-      in_turn = tt;
+      in_turn = whole ∙ sym (replies-marks 0 endpoint first (events calls) o.marks (mark ∷ []) (omega (arith, o.marked)));
       still = tt;
     } in
     record {
@@ -104,6 +118,7 @@ prepared_at endpoint first s t before now owed reply sv time mark calls o one co
       owes = more;
       unfinished = o.unfinished;
       sound = o.sound;
+      unshut = o.unshut;
     }
 
 -- a time was told, and this is the reply to what was served then
@@ -114,19 +129,19 @@ pub prepared_by : (endpoint : List ℕ) (before after : State) (sv : Served) (n 
 prepared_by endpoint before after sv n time mark reply reply_is state calls made =
     record { time = time; mark = mark; made = made; reply_is = reply_is; state = state }
 
-pub owing_prepared : (endpoint : List ℕ) (first : State) (s t : Serving) (now : After) (owed reply : List ℕ) (sv : Served) (x y : List Call)
+pub owing_prepared : (endpoint : List ℕ) (first : State) (s t : Serving) (now : After) (reply : List ℕ) (sv : Served) (x y : List Call)
     → served (front s.reader.held) ≡ Some sv
     → t.count ≡ s.count + 1
     → t.reader.passed + length t.reader.held ≡ s.reader.passed + length s.reader.held
     → after most t.count (taken 0 x) ≡ Some now
-    → OwingAt endpoint first s (Going s.reader.held) owed x
+    → GoodAt endpoint first s x
     → Prepares endpoint s.engine.state t.engine.state sv s.count reply y
-    → OwingAt endpoint first t now (owed ++ reply) (y ++ x)
-owing_prepared endpoint first s t now owed reply sv x y is count place held o p =
+    → OwingAt endpoint first t now reply (y ++ x)
+owing_prepared endpoint first s t now reply sv x y is count place held o p =
     let next = served_at-next s.count (taken 0 x) s.reader.held sv o.held is in
     let one = events-told s.count p.time sv x o.sound o.counted next in
-    subst (OwingAt endpoint first t now (owed ++ reply)) (ap (λ z. z ++ x) (sym p.made))
-    (prepared_at endpoint first s t (Going s.reader.held) now owed reply sv p.time p.mark x o one count place held p.reply_is p.state)
+    subst (OwingAt endpoint first t now reply) (ap (λ z. z ++ x) (sym p.made))
+    (prepared_at endpoint first s t (Going s.reader.held) now [] reply sv p.time p.mark x o (all_given endpoint first s (Going s.reader.held) x o 0) one count place held p.reply_is p.state)
 
 -- Giving what is owed, moment by moment.
 given_here : (endpoint : List ℕ) (first : State) (marks : List Mark) (owed : List ℕ) (l : ℕ) (piece : List ℕ) (went : Option ℕ) (gives calls : List Call)
@@ -213,6 +228,7 @@ owing_given E endpoint first s now owed x y o g =
       owes = owes;
       unfinished = at_end-gives 0 0 y x gave ∙ o.unfinished;
       sound = failed_on-append 0 y x ∙ ap (λ b. b || failed_on 0 x) g.whole.1 ∙ o.sound;
+      unshut = is_shut-gives 0 0 y x gave ∙ o.unshut;
     }
 
 -- a call failed while it was given
@@ -228,25 +244,24 @@ ended_giving endpoint first s now owed e x y o g =
       end = (fails-append 0 y x g.failed, at_end-gives 0 0 y x gave ∙ o.unfinished);
     }
 
--- where nothing is owed, all replies were given
-all_given : (endpoint : List ℕ) (first : State) (s : Serving) (now : After) (calls : List Call) → (o : OwingAt endpoint first s now [] calls) → AllGiven endpoint first o.marks calls
-all_given endpoint first s now calls o = λ line. sym (o.owes line ∙ ap (λ z. sent line calls ++ z) (on_line-nil line) ∙ append-nil (sent line calls))
-
--- shutting the line changes no reply
-shut_each : (endpoint : List ℕ) (first : State) (marks : List Mark) (calls : List Call) → AtEach (Answered endpoint first marks) calls
-    → AtEach (Answered endpoint first marks) (Shut 0 ∷ calls)
-shut_each endpoint first marks calls each =
+-- the line is shut when all was given and nothing more is served
+shut_each : (endpoint : List ℕ) (first : State) (marks : List Mark) (calls : List Call) → is_shut 0 calls ≡ false → sent 0 calls ≡ replies 0 endpoint first (events calls) marks
+    → IsServed calls → AtEach (Answered endpoint first marks) calls → AtEach (Answered endpoint first marks) (Shut 0 ∷ calls)
+shut_each endpoint first marks calls once given over each =
     let a = at_now (Answered endpoint first marks) calls each in
-    (record { within = a.within; timed = a.timed; printed = a.printed; in_turn = tt; still = tt }, each)
+    let turn : IsOver endpoint first marks 0 calls = record { of_line = refl; once = once; given = given; over = over } in
+    (record { within = a.within; timed = a.timed; printed = a.printed; in_turn = turn; still = tt }, each)
 
 -- the last message of the line was answered
 pub ended_over : (endpoint : List ℕ) (first : State) (s : Serving) (calls : List Call) → OwingAt endpoint first s Over [] calls → EndedAt endpoint first status.Done (Shut 0 ∷ calls)
-ended_over endpoint first s calls o = record {
-  marks = o.marks;
-  each = shut_each endpoint first o.marks calls o.each;
-  marked = o.marked;
-  end = (all_given endpoint first s Over calls o, inr (ap (λ n. after most n (taken 0 calls)) (sym o.counted) ∙ o.held));
-}
+ended_over endpoint first s calls o =
+    let over : after most (length (events calls)) (taken 0 calls) ≡ Some Over = ap (λ n. after most n (taken 0 calls)) (sym o.counted) ∙ o.held in
+    record {
+      marks = o.marks;
+      each = shut_each endpoint first o.marks calls o.unshut (all_given endpoint first s Over calls o 0) (inr (inl over)) o.each;
+      marked = o.marked;
+      end = (all_given endpoint first s Over calls o, inr over, refl);
+    }
 
 -- What is no message was refused, and the reply is owed.
 pub record RefusingAt (endpoint : List ℕ) (first : State) (s : Serving) (place : ℕ) (owed : List ℕ) (calls : List Call) : Type 0 where
@@ -263,7 +278,7 @@ pub refusing_prepared : (endpoint : List ℕ) (first : State) (s t : Serving) (r
 refusing_prepared endpoint first s t reply x y bad count reader o p =
     let held : after most t.count (taken 0 x) ≡ Some Broken =
     ap (λ n. after most n (taken 0 x)) count ∙ after-bad s.count (taken 0 x) s.reader.held o.held bad in
-    let owing = owing_prepared endpoint first s t Broken [] reply Unreadable x y (ap served bad) count (ap (λ (r : Reading). r.passed + length r.held) reader) held o p in
+    let owing = owing_prepared endpoint first s t Broken reply Unreadable x y (ap served bad) count (ap (λ (r : Reading). r.passed + length r.held) reader) held o p in
     let calls : y ++ x ≡ Told p.time ∷ x = ap (λ z. z ++ x) p.made in
     let bytes : taken 0 (y ++ x) ≡ taken 0 x = ap (taken 0) calls in
     record {
@@ -303,11 +318,13 @@ ended_refused endpoint first s place calls r =
     let u = r.unreadable in
     record {
       marks = r.owing.marks;
-      each = shut_each endpoint first r.owing.marks calls r.owing.each;
+      each = shut_each endpoint first r.owing.marks calls r.owing.unshut (all_given endpoint first s Broken calls r.owing 0)
+          (inr (inr (ap (λ n. after most n (taken 0 calls)) (sym r.owing.counted) ∙ r.owing.held))) r.owing.each;
       marked = r.owing.marked;
       end = (
         all_given endpoint first s Broken calls r.owing,
         record { before = u.before; rest = u.rest; last = u.last; held = u.held; bad = u.bad; at = u.at },
+        refl,
       );
     }
 
@@ -327,6 +344,7 @@ good_first endpoint first s state reader count =
       owes = λ line. sym (on_line-nil line);
       unfinished = refl;
       sound = refl;
+      unshut = refl;
     }
 
 -- no call was made
@@ -346,6 +364,7 @@ took_each endpoint first s n bytes calls size part g =
     let ready : IsReady endpoint first g.marks 0 n calls = record {
       of_line = refl;
       of_size = size;
+      unended = g.unfinished;
       given = all_given endpoint first s (Going s.reader.held) calls g 0;
       rest = s.reader.held;
       goes_on = ap (λ k. after most k (taken 0 calls)) (sym g.counted) ∙ g.held;
@@ -371,6 +390,7 @@ good_took endpoint first s t n bytes calls size engine count reader part filled 
       owes = g.owes;
       unfinished = rw (filled, g.unfinished) refl;
       sound = g.sound;
+      unshut = g.unshut;
     }
 
 -- out of memory between two turns
@@ -396,9 +416,9 @@ ended_clean endpoint first s n bytes calls size none empty part g =
     let stream : taken 0 calls ++ bytes ≡ taken 0 calls = ap (λ z. taken 0 calls ++ z) none ∙ append-nil (taken 0 calls) in
     record {
       marks = g.marks;
-      each = shut_each endpoint first g.marks (Took 0 n (Some bytes) ∷ calls) (took_each endpoint first s n (Some bytes) calls size part g);
+      each = shut_each endpoint first g.marks (Took 0 n (Some bytes) ∷ calls) g.unshut (all_given endpoint first s (Going s.reader.held) calls g 0) (inl (rw none refl)) (took_each endpoint first s n (Some bytes) calls size part g);
       marked = g.marked;
-      end = (all_given endpoint first s (Going s.reader.held) calls g, inl (rw none refl, rw (stream, ← g.counted) (g.held ∙ ap (λ z. Some (Going z)) empty)));
+      end = (all_given endpoint first s (Going s.reader.held) calls g, inl (rw none refl, rw (stream, ← g.counted) (g.held ∙ ap (λ z. Some (Going z)) empty)), refl);
     }
 
 pub ended_rest : (endpoint : List ℕ) (first : State) (s : Serving) (n : ℕ) (bytes : List ℕ) (calls : List Call) → n ≡ 65536 → bytes ≡ [] → 0 < length s.reader.held
@@ -407,7 +427,7 @@ ended_rest endpoint first s n bytes calls size none some part g =
     let stream : taken 0 calls ++ bytes ≡ taken 0 calls = ap (λ z. taken 0 calls ++ z) none ∙ append-nil (taken 0 calls) in
     record {
       marks = g.marks;
-      each = shut_each endpoint first g.marks (Took 0 n (Some bytes) ∷ calls) (took_each endpoint first s n (Some bytes) calls size part g);
+      each = shut_each endpoint first g.marks (Took 0 n (Some bytes) ∷ calls) g.unshut (all_given endpoint first s (Going s.reader.held) calls g 0) (inl (rw none refl)) (took_each endpoint first s n (Some bytes) calls size part g);
       marked = g.marked;
       end = (
         all_given endpoint first s (Going s.reader.held) calls g,
@@ -419,6 +439,7 @@ ended_rest endpoint first s n bytes calls size none some part g =
           some = some;
           at = rw stream g.place;
         },
+        refl,
       );
     }
 

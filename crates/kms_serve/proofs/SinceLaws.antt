@@ -35,7 +35,7 @@ since_answered endpoint first s t q close last reply whole place count is_last g
     (λ was x y h p.
     let here = ap (λ n. after most n (taken 0 x)) count ∙ after-next s.count (taken 0 x) s.reader.held t.reader.held q close h.held whole in
     let held = subst (λ (b : Bool). after most t.count (taken 0 x) ≡ Some (stand b t.reader.held)) (sym is_last) here in
-    owing_prepared endpoint first s t (stand last t.reader.held) [] reply (Asking q close) x y (ap served whole) count place held h p)
+    owing_prepared endpoint first s t (stand last t.reader.held) reply (Asking q close) x y (ap served whole) count place held h p)
 
 pub since_refused : {a b d : Option History} (endpoint : List ℕ) (first : State) (s t : Serving) (reply : List ℕ)
     → front s.reader.held ≡ Bad

@@ -51,11 +51,19 @@ EndsFailed line (Gave l piece None ∷ calls) = l ≡ line
 EndsFailed line (Shut l ∷ calls) = ⊥
 EndsFailed line (Told t ∷ calls) = ⊥
 
+-- the newest call shut the line
+abbrev pub EndsShut : List Call → Type 0
+EndsShut [] = ⊥
+EndsShut (Took l room bytes ∷ calls) = ⊥
+EndsShut (Gave l piece went ∷ calls) = ⊥
+EndsShut (Shut l ∷ calls) = l ≡ 0
+EndsShut (Told t ∷ calls) = ⊥
+
 -- What a status says of the calls of the run. `whole` says that all replies were given.
 abbrev pub IsEnd : Status → List Call → (whole : Type 0) → Type 0
-IsEnd status.Done calls whole = whole × EndsClean calls
-IsEnd (status.Rest place) calls whole = whole × EndsInside place calls
-IsEnd (status.Unreadable place) calls whole = whole × EndsUnreadable place calls
+IsEnd status.Done calls whole = whole × EndsClean calls × EndsShut calls
+IsEnd (status.Rest place) calls whole = whole × EndsInside place calls × EndsShut calls
+IsEnd (status.Unreadable place) calls whole = whole × EndsUnreadable place calls × EndsShut calls
 IsEnd status.NoMemory calls whole = at_end 0 calls ≡ false
 IsEnd status.LinkFault calls whole = EndsFailed 0 calls × (at_end 0 calls ≡ false)
 IsEnd status.Words calls whole = ⊥

@@ -1,7 +1,7 @@
 -- What the program keeps between its steps.
 use Rattle.std.specs.Prelude.{◌≡◌, ℕ, ◌+◌, List, [], ◌++◌, ◌==◌, length, false, Some, if◌then◌else◌}
 use Rattle.kms_host.specs.Moment.{AtEach}
-use Rattle.kms_host.specs.Line.{taken, sent, at_end, failed_on}
+use Rattle.kms_host.specs.Line.{taken, sent, at_end, failed_on, is_shut}
 use Rattle.kms_host.specs.declared.call.Call.{Call}
 use Rattle.kms_world.specs.State.{State}
 use Rattle.kms_model.specs.declared.event.Mark.{Mark}
@@ -31,6 +31,7 @@ pub record OwingAt (endpoint : List ℕ) (first : State) (s : Serving) (stand : 
   pub owes : (line : ℕ) → replies line endpoint first (events calls) marks ≡ sent line calls ++ on_line line owed
   pub unfinished : at_end 0 calls ≡ false
   pub sound : failed_on 0 calls ≡ false
+  pub unshut : is_shut 0 calls ≡ false
 
 -- between two turns nothing is owed, and the line goes on with the bytes that the reader holds
 abbrev pub GoodAt : (endpoint : List ℕ) → State → Serving → List Call → Type 0

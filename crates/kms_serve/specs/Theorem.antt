@@ -36,11 +36,11 @@ abbrev pub Answers : (endpoint : Option (List ℕ)) → (before after : Option H
 Answers None before after s = (s ≡ status.Words) × Since before after (λ was calls. calls ≡ [])
 Answers (Some endpoint) before after s = (s ≡ status.Words → ⊥) × Since before after (λ was calls. Carries endpoint first_state s calls)
 
--- the words were understood, and no call failed
-abbrev pub IsServed : Status → Type 0
-IsServed status.Done = Unit {0}
-IsServed status.NoMemory = Unit {0}
-IsServed (status.Rest place) = Unit {0}
-IsServed (status.Unreadable place) = Unit {0}
-IsServed status.Words = ⊥
-IsServed status.LinkFault = ⊥
+-- the words were understood, and no call failed: the line was served to its end, or the run was out of memory
+abbrev pub IsEnded : Status → Type 0
+IsEnded status.Done = Unit {0}
+IsEnded status.NoMemory = Unit {0}
+IsEnded (status.Rest place) = Unit {0}
+IsEnded (status.Unreadable place) = Unit {0}
+IsEnded status.Words = ⊥
+IsEnded status.LinkFault = ⊥

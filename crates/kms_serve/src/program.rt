@@ -3,7 +3,7 @@ ghost use Rattle.std.specs.Prelude.{◌≡◌, IsSome};
 ghost use Rattle.kms_host.specs.Faults.{NeverFalls, Rose};
 ghost use Rattle.kms_host.specs.History.{WhereTold};
 ghost use Rattle.kms_host.specs.Line.{IsOpen};
-ghost use Rattle.kms_serve.specs.Theorem.{Answers, IsServed};
+ghost use Rattle.kms_serve.specs.Theorem.{Answers, IsEnded};
 ghost use Rattle.kms_serve.specs.Words as spec;
 
 use crate::line::serve_line;
@@ -28,10 +28,11 @@ pub fn run<H: Host>(alloc: Global, words: &[String], host: &mut H) -> Status
     // Words that are not understood, and nothing else, end the run before its first call.
     ensures words { spec.endpoint_of (spec.texts words.now) ≡ None → host.new ≡ host.old }
 
-    // A link fault is answered only where the count rose, and where it did not rise the run comes to its end.
+    // A link fault is answered only where the count rose; where it did not rise the line is served to its end, or the
+    // run is out of memory.
     ensures later { NeverFalls (H.faults host.old) (H.faults host.new) }
     ensures link_fault { result ≡ Status.LinkFault → Rose (H.faults host.old).link (H.faults host.new).link }
-    ensures complete { IsSome (spec.endpoint_of (spec.texts words.now)) → (Rose (H.faults host.old).link (H.faults host.new).link → ⊥) → IsServed result }
+    ensures complete { IsSome (spec.endpoint_of (spec.texts words.now)) → (Rose (H.faults host.old).link (H.faults host.new).link → ⊥) → IsEnded result }
 {
     match endpoint_of(words) {
         None => Status::Words,

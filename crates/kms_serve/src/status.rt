@@ -11,6 +11,7 @@ pub enum Status {
     Done,
     /// the words of the command line are not understood
     Words,
+    /// out of memory outside of a request's answer
     NoMemory,
     /// the line failed
     LinkFault,

@@ -21,6 +21,13 @@ const GET: &[u8] =
 const SHOWN: &[u8] =
     b"HTTP/1.1 200 OK\r\nDate: Sat, 26 Oct 1985 08:20:00 GMT\r\nContent-Type: application/json\r\nContent-Length: 272\r\n\r\n{\"algorithm\":null,\"bit_length\":null,\"created\":\"1985-10-26T08:20:00\",\"creator_id\":\"u1\",\"expiration\":null,\"mode\":null,\"name\":\"a\",\"secret_ref\":\"http://k/v1/secrets/01234567-89ab-8cde-8000-000000000000\",\"secret_type\":\"opaque\",\"status\":\"ACTIVE\",\"updated\":\"1985-10-26T08:20:00\"}";
 
+const GET_SECOND: &[u8] =
+    b"GET /v1/secrets/01234567-89ab-8cde-8000-000000000001 HTTP/1.1\r\nX-Project-Id: p1\r\nX-User-Id: u1\r\nX-Roles: creator\r\n\r\n";
+
+// A message of the right form but for its body.
+const ANOTHER_BODY: &[u8] =
+    b"POST /v1/secrets HTTP/1.1\r\nX-Project-Id: p1\r\nX-User-Id: u1\r\nX-Roles: creator\r\nContent-Type: application/json\r\nContent-Length: 12\r\n\r\n{\"nama\":\"a\"}";
+
 const ABSENT: &[u8] =
     b"HTTP/1.1 404 Not Found\r\nDate: Sat, 26 Oct 1985 08:20:00 GMT\r\nContent-Type: application/json\r\nContent-Length: 57\r\n\r\n{\"code\":404,\"description\":\"NoObject\",\"title\":\"Not Found\"}";
 
@@ -72,16 +79,20 @@ fn joined(alloc: Global, parts: &[&[u8]]) -> Result<Vec<u8>, AllocError> {
     Ok(whole)
 }
 
-// Whether a run over the line ends so, having sent this, without a call that was out of memory.
+// Whether a run over a line that brings these bytes in pieces, and fails at the given link call where there is one,
+// ends so, having sent this, without a call that was out of memory.
 fn serves(
     alloc: Global,
-    mut host: MemoryHost,
+    bytes: &[u8],
+    piece: usize,
+    fails: Option<u64>,
     status: Status,
     sent: &[u8],
-) -> Result<bool, AllocError>
-    requires { WhereTold host.history (IsOpen 0) }
+) -> Result<bool, NoMemory>
+    requires { 0 < piece }
 {
     let words = owned(alloc, &WORDS)?;
+    let mut host = host(alloc, bytes, piece, fails)?;
     let ended = run(alloc, &words, &mut host);
     Ok(ended == status && host.sent(0) == sent && host.wanted() == 0)
 }
@@ -89,60 +100,54 @@ fn serves(
 #[test]
 fn secrets_are_made_and_shown(rt: HostRuntime) -> Result<(), Fail> {
     let alloc = rt.alloc();
-    let requests = joined(alloc, &[GET, POST, GET])?;
-    let replies = joined(alloc, &[ABSENT, CREATED, SHOWN])?;
-    assert!(rt; serves(alloc, host(alloc, POST, 200, None)?, Status::Done, CREATED)?);
-    assert!(rt;
-        serves(
-            alloc,
-            host(alloc, &requests, 1, None)?,
-            Status::Done,
-            &replies
-        )?
-    );
-    assert!(rt;
-        serves(
-            alloc,
-            host(alloc, &requests, 65536, None)?,
-            Status::Done,
-            &replies
-        )?
-    );
-    assert!(rt; serves(alloc, host(alloc, b"", 1, None)?, Status::Done, b"")?);
+    let requests = joined(alloc, &[GET, POST, GET, GET_SECOND])?;
+    let replies = joined(alloc, &[ABSENT, CREATED, SHOWN, ABSENT])?;
+    assert!(rt; serves(alloc, b"", 1, None, Status::Done, b"")?);
+    assert!(rt; serves(alloc, POST, 200, None, Status::Done, CREATED)?);
+    assert!(rt; serves(alloc, &requests, 1, None, Status::Done, &replies)?);
+    assert!(rt; serves(alloc, &requests, 65536, None, Status::Done, &replies)?);
     Ok(())
 }
 
 #[test]
-fn streams_end_inside_messages_and_at_none(rt: HostRuntime) -> Result<(), Fail> {
+fn streams_end_inside_messages(rt: HostRuntime) -> Result<(), Fail> {
     let alloc = rt.alloc();
     let cut = joined(alloc, &[POST, &POST[..137]])?;
-    let bad = joined(alloc, &[POST, b"HELLO\r\n\r\n", POST])?;
+    let no_head = [b'A'; 511];
+    assert!(rt; serves(alloc, b"HELLO", 2, None, Status::Rest(0), b"")?);
+    assert!(rt; serves(alloc, &no_head, 100, None, Status::Rest(0), b"")?);
+    assert!(rt; serves(alloc, &cut, 100, None, Status::Rest(144), CREATED)?);
+    Ok(())
+}
+
+#[test]
+fn what_is_no_message_ends_the_line(rt: HostRuntime) -> Result<(), Fail> {
+    let alloc = rt.alloc();
+    let no_head = [b'A'; 512];
+    let behind = joined(alloc, &[POST, b"HELLO\r\n\r\n", POST])?;
     let refused = joined(alloc, &[CREATED, REFUSED])?;
-    assert!(rt; serves(alloc, host(alloc, b"HELLO", 2, None)?, Status::Rest(0), b"")?);
     assert!(rt;
         serves(
             alloc,
-            host(alloc, &cut, 100, None)?,
-            Status::Rest(144),
-            CREATED
-        )?
-    );
-    assert!(rt;
-        serves(
-            alloc,
-            host(alloc, b"HELLO\r\n\r\n", 9, None)?,
+            b"HELLO\r\n\r\n",
+            9,
+            None,
             Status::Unreadable(0),
             REFUSED
         )?
     );
+    assert!(rt; serves(alloc, &no_head, 100, None, Status::Unreadable(0), REFUSED)?);
     assert!(rt;
         serves(
             alloc,
-            host(alloc, &bad, 1, None)?,
-            Status::Unreadable(144),
-            &refused
+            ANOTHER_BODY,
+            144,
+            None,
+            Status::Unreadable(0),
+            REFUSED
         )?
     );
+    assert!(rt; serves(alloc, &behind, 1, None, Status::Unreadable(144), &refused)?);
     Ok(())
 }
 
@@ -150,30 +155,9 @@ fn streams_end_inside_messages_and_at_none(rt: HostRuntime) -> Result<(), Fail> 
 fn a_line_fails(rt: HostRuntime) -> Result<(), Fail> {
     let alloc = rt.alloc();
     let twice = joined(alloc, &[POST, POST])?;
-    assert!(rt;
-        serves(
-            alloc,
-            host(alloc, POST, 144, Some(1))?,
-            Status::LinkFault,
-            b""
-        )?
-    );
-    assert!(rt;
-        serves(
-            alloc,
-            host(alloc, POST, 144, Some(2))?,
-            Status::LinkFault,
-            b""
-        )?
-    );
-    assert!(rt;
-        serves(
-            alloc,
-            host(alloc, &twice, 144, Some(3))?,
-            Status::LinkFault,
-            CREATED
-        )?
-    );
+    assert!(rt; serves(alloc, POST, 144, Some(1), Status::LinkFault, b"")?);
+    assert!(rt; serves(alloc, POST, 144, Some(2), Status::LinkFault, b"")?);
+    assert!(rt; serves(alloc, &twice, 144, Some(3), Status::LinkFault, CREATED)?);
     Ok(())
 }
 
