@@ -3,8 +3,8 @@
 `openssl speed`, in one run, as ratios.
 
 Usage: bench/token_speed.py PROGRAM
-PROGRAM is the built program of crates/kms_vectors (`rt run` there builds it). It reads and prints
-hexadecimal digits; the time of the same lines under an unknown command is taken off.
+PROGRAM is the built program of crates/kms_vectors (`rt run` there builds it). Its rates have the
+reading and printing of hexadecimal digits in them.
 """
 
 import base64
@@ -20,11 +20,17 @@ except ImportError:
     Fernet = None
 
 
-def seconds(program, lines):
-    text = "".join(line + "\n" for line in lines)
-    begin = time.perf_counter()
-    subprocess.run([program], input=text, stdout=subprocess.DEVNULL, text=True, check=True)
-    return time.perf_counter() - begin
+def rate(program, size, count, line):
+    """Bytes a second over `count` calls, with the start of the program taken off."""
+    def seconds(times):
+        begin = time.perf_counter()
+        subprocess.run([program], input=f"repeat {times} {line}\n", stdout=subprocess.DEVNULL, text=True, check=True)
+        return time.perf_counter() - begin
+
+    spent = seconds(count + 1) - seconds(1)
+    if spent <= 0.05:
+        sys.exit("the machine is too busy, or the count too small, to tell")
+    return size * count / spent
 
 
 def openssl_rate(size):
@@ -41,14 +47,14 @@ def main():
     program = sys.argv[1]
     key, iv = os.urandom(32), os.urandom(16)
     for size in [32, 1024, 20000]:
-        count = max(20, 2_000_000 // size)
+        count = max(100, 8_000_000 // (size + 200))
         plain = os.urandom(size)
-        rates = {}
-        seal = f"{key.hex()} 0 {iv.hex()} {plain.hex()}"
-        token = subprocess.run([program], input=f"seal {seal}\n", capture_output=True, text=True, check=True).stdout.strip()
-        for name, words in [("seal", seal), ("unseal", f"{key.hex()} {token}")]:
-            spent = seconds(program, [f"{name} {words}"] * count) - seconds(program, [f"none {words}"] * count)
-            rates[name] = size * count / max(spent, 1e-9)
+        seal = f"seal {key.hex()} 0 {iv.hex()} {plain.hex()}"
+        token = subprocess.run([program], input=seal + "\n", capture_output=True, text=True, check=True).stdout.strip()
+        rates = {
+            "seal": rate(program, size, count, seal),
+            "unseal": rate(program, size, count, f"unseal {key.hex()} {token}"),
+        }
         print(f"{size} bytes: seal {rates['seal'] / 1e6:.1f} MB/s, unseal {rates['unseal'] / 1e6:.1f} MB/s")
         if Fernet is not None:
             fernet = Fernet(base64.urlsafe_b64encode(key))

@@ -6,6 +6,24 @@ use std::alloc::{AllocError, Global};
 
 /// The answer to a line.
 pub fn answer(alloc: Global, line: &str) -> Result<String, AllocError> {
+    match line.split_once(' ') {
+        Some(("repeat", rest)) => repeated(alloc, rest),
+        _ => answered(alloc, line),
+    }
+}
+
+// The answer to what stands behind a count, after that many times.
+fn repeated(alloc: Global, words: &str) -> Result<String, AllocError> {
+    let Some((count, rest)) = words.split_once(' ') else {
+        return String::from_str(alloc, "?");
+    };
+    for _ in 1..count.parse::<u32>().unwrap_or(0) {
+        let _ = answered(alloc, rest)?;
+    }
+    answered(alloc, rest)
+}
+
+fn answered(alloc: Global, line: &str) -> Result<String, AllocError> {
     let found = match line.split_once(' ') {
         Some(("aes", rest)) => aes(alloc, rest)?,
         Some(("mac", rest)) => code(alloc, rest)?,
