@@ -1,0 +1,3 @@
+pub mod PolicyLaws
+pub mod RepeatLaws
+pub mod UserLaws

@@ -1,0 +1,7 @@
+pub mod Acl
+pub mod Checked
+pub mod Laws
+pub mod Limits
+pub mod Policy
+pub mod Quota
+pub mod Users
