@@ -2,6 +2,7 @@ pub mod Action
 pub mod ContainerKind
 pub mod Field
 pub mod Id
+pub mod Media
 pub mod Name
 pub mod NameFields
 pub mod Names

@@ -53,11 +53,11 @@ impl Members {
     }
 
     /// Puts a member behind the others. After `NoMemory` they are as before.
-    pub fn push(&mut self, name: Option<Text>, secret: Id) -> Result<(), NoMemory>
-        ensures ok { OnOk result (self.new ≡ self.old ++ (name, secret) ∷ []) }
+    pub fn push(&mut self, member: (Option<Text>, Id)) -> Result<(), NoMemory>
+        ensures ok { OnOk result (self.new ≡ self.old ++ member ∷ []) }
         ensures err { OnErr result (self.new ≡ self.old) }
     {
-        self.items.push((name, secret))?;
+        self.items.push(member)?;
         Ok(())
     }
 

@@ -1,5 +1,5 @@
 // Names of projects and users.
-ghost use Rattle.std.specs.Prelude.{◌≡◌, ◌≤◌, ◌-◌, ◌++◌, length, replicate, if◌then◌else◌, Some, None};
+ghost use Rattle.std.specs.Prelude.{◌≡◌, ◌≤◌, ◌-◌, ◌++◌, length, replicate, if◌then◌else◌, Some, None, true};
 ghost use Rattle.std.specs.List.{list_all};
 ghost use Rattle.kms_world.specs.Name.{is_name, is_name_byte};
 
@@ -78,7 +78,8 @@ impl Name {
 
     /// The bytes of the name.
     pub fn as_bytes(&self) -> &[u8]
-        ensures { result.now ≡ self.now }
+        ensures bytes { result.now ≡ self.now }
+        ensures name { is_name self.now ≡ true }
     {
         &self.bytes[..self.len as usize]
     }

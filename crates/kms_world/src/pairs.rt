@@ -34,12 +34,12 @@ impl Pairs {
     }
 
     /// Puts a pair behind the others. After `NoMemory` they are as before.
-    pub fn push(&mut self, key: Text, value: Text) -> Result<(), NoMemory>
-        requires { All (λ p. IsTrue (is_below p.0 key)) self.old }
-        ensures ok { OnOk result (self.new ≡ self.old ++ (key, value) ∷ []) }
+    pub fn push(&mut self, pair: (Text, Text)) -> Result<(), NoMemory>
+        requires { All (λ p. IsTrue (is_below p.0 pair.0)) self.old }
+        ensures ok { OnOk result (self.new ≡ self.old ++ pair ∷ []) }
         ensures err { OnErr result (self.new ≡ self.old) }
     {
-        self.items.push((key, value))?;
+        self.items.push(pair)?;
         Ok(())
     }
 

@@ -22,11 +22,11 @@ fn made(alloc: Global) -> Result<(), NoMemory> {
     let text = Text::of(alloc, "owner")?;
     let value = Text::of(alloc, "web")?;
     let mut pairs = Pairs::new(alloc);
-    pairs.push(text, value)?;
+    pairs.push((text, value))?;
     let mut bytes = Bytes::of(alloc, b"ab")?;
     bytes.push_all(b"cd")?;
     let mut members = Members::new(alloc);
-    members.push(None, Id(1))?;
+    members.push((None, Id(1)))?;
     let mut texts = Texts::new(alloc);
     texts.push(Text::of(alloc, "u1")?)?;
     let mut names = Names::new(alloc);
