@@ -1,6 +1,8 @@
 -- How often calls of the outside failed, and what a fault that is answered owes.
-use Rattle.std.specs.Prelude.{ℕ, ◌+◌, ◌-◌, ◌^◌, ◌≤◌, min, Result, OnErr}
+use Rattle.std.specs.Prelude.{ℕ, ◌+◌, ◌-◌, ◌^◌, ◌≤◌, min, Result, OnErr, IsErrOf}
 use Rattle.kms_host.specs.declared.call.Count.{Count}
+use Rattle.kms_host.specs.declared.call.NameFault.{NameFault}
+use Rattle.kms_host.specs.declared.call.NameFault.TheVariants.{Failed}
 use Rattle.kms_host.specs.declared.call.Count.TheVariants.{KeyFile, Store, Link, Draw, Listen}
 
 -- how many calls of each kind failed
@@ -34,6 +36,11 @@ pub record NeverFalls (before now : Faults) : Type 0 where
 pub record HasCause {T E : Type 0} (count : Count) (before now : Faults) (result : Result T E) : Type 0 where
   pub later : NeverFalls before now
   pub failed : OnErr result (Rose (count_of count before) (count_of count now))
+
+-- The same of a call that names something: being out of memory needs no cause.
+pub record HasNameCause {T : Type 0} (count : Count) (before now : Faults) (result : Result T NameFault) : Type 0 where
+  pub later : NeverFalls before now
+  pub failed : IsErrOf result Failed → Rose (count_of count before) (count_of count now)
 
 abbrev pub no_faults : Faults
 no_faults = record { key_file = 0; store = 0; link = 0; draw = 0; listen = 0 }

@@ -38,6 +38,16 @@ abbrev pub given : {E : Type 0} → List ℕ → Result ℕ E → Option (List �
 given room (Ok n) = Some (take n room)
 given room (Err e) = None
 
+-- the same of a call whose fault has a cause
+abbrev pub given_by_name : {E : Type 0} → List ℕ → Result ℕ E → Result (List ℕ) E
+given_by_name room (Ok n) = Ok (take n room)
+given_by_name room (Err e) = Err e
+
+-- the bytes with which a call filled its room, as they are recorded
+abbrev pub filled : {T E : Type 0} → List ℕ → Result T E → Option (List ℕ)
+filled room (Ok x) = Some room
+filled room (Err e) = None
+
 -- the first n bytes of the room are the first of these, as many as fit
 pub record HasFirst (bytes room : List ℕ) (n : ℕ) : Type 0 where
   pub count : n ≡ min (length room) (length bytes)

@@ -1,6 +1,13 @@
+pub mod Disk
 pub mod Faults
+pub mod File
 pub mod History
+pub mod Host
+pub mod KeyFiles
 pub mod Line
 pub mod Memory
 pub mod Moment
+pub mod Possible
+pub mod Random
 pub mod Recording
+pub mod Store

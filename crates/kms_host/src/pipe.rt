@@ -1,19 +1,27 @@
-// The trusted edge towards a terminal or a pipe: standard input and output, and the system's clock.
-ghost use Rattle.std.specs.Prelude.{◌≡◌, ◌≤◌, ◌<◌, length, IfOk, None};
-ghost use Rattle.kms_host.specs.Faults.{no_faults};
+// The trusted edge towards the machine: files, standard input and output, the system's clock and its random source.
+ghost use Rattle.std.specs.Prelude.{◌≡◌, ◌≤◌, None, OnErr};
+ghost use Rattle.kms_host.specs.Faults.{no_faults, Rose};
 
-use crate::{Failed, Host};
-use std::io::{ErrorKind, Read, Write};
+mod files;
+mod stream;
+
+use crate::pipe::files::{StoreFiles, read_front};
+use crate::pipe::stream::{read_some, seconds, write_some};
+use crate::{Failed, Host, NameFault, Purpose};
 use std::marker::Model;
+use std::random::RandomSource;
 use std::rt::HostRuntime;
-use std::time::{SystemTime, UNIX_EPOCH};
 
-/// A host whose line 0 is standard input and output. Any other line is at its end, and giving to it fails. Its clock is
-/// the system's. It tells nothing but how many of its calls failed.
+/// A host whose line 0 is standard input and output. Any other line is at its end, and giving to it fails. A store is
+/// the two files `NAME.0` and `NAME.1`. It tells nothing but how many of its calls failed.
 #[derive(Drop)]
 pub struct PipeHost {
     rt: HostRuntime,
+    files: Option<StoreFiles>,
+    key_file: u64,
+    store: u64,
     link: u64,
+    draw: u64,
 }
 
 impl Model for PipeHost {
@@ -21,7 +29,7 @@ impl Model for PipeHost {
 
     ghost Value = { Faults };
 
-    ghost view = { λ p. record { key_file = 0; store = 0; link = p.link; draw = 0; listen = 0 } };
+    ghost view = { λ p. record { key_file = p.key_file; store = p.store; link = p.link; draw = p.draw; listen = 0 } };
 }
 
 impl PipeHost {
@@ -29,8 +37,27 @@ impl PipeHost {
     pub fn new(rt: HostRuntime) -> PipeHost
         ensures { result ≡ no_faults }
     {
-        PipeHost { rt, link: 0 }
+        PipeHost {
+            rt,
+            files: None,
+            key_file: 0,
+            store: 0,
+            link: 0,
+            draw: 0,
+        }
     }
+}
+
+// The same answer; a fault is counted, as far as 64 bits go.
+fn counted<T>(count: &mut u64, answer: Result<T, Failed>) -> Result<T, Failed>
+    ensures same { result ≡ answer }
+    ensures later { count.old ≤ count.new }
+    ensures rose { OnErr result (Rose count.old count.new) }
+{
+    if answer.is_err() {
+        *count = count.saturating_add(1);
+    }
+    answer
 }
 
 impl Host for PipeHost {
@@ -40,100 +67,137 @@ impl Host for PipeHost {
 
     ghost wanted = { λ _. 0 };
 
+    fn text(&mut self, name: &str, room: &mut [u8]) -> Result<usize, NameFault> {
+        match read_front(self.rt, name, room) {
+            Ok(count) => Ok(count),
+            Err(Failed) => {
+                self.key_file = self.key_file.saturating_add(1);
+                Err(NameFault::Failed)
+            }
+        }
+    }
+
+    fn attach(&mut self, name: &str) -> Result<(), NameFault> {
+        match StoreFiles::open(self.rt, name) {
+            Ok(files) => {
+                self.files = Some(files);
+                Ok(())
+            }
+            Err(NameFault::NoMemory) => Err(NameFault::NoMemory),
+            Err(NameFault::Failed) => {
+                self.store = self.store.saturating_add(1);
+                Err(NameFault::Failed)
+            }
+        }
+    }
+
     fn take(&mut self, line: u32, room: &mut [u8]) -> Result<usize, Failed> {
         if line != 0 {
             return Ok(0);
         }
-        match read_some(self.rt, room) {
-            Ok(count) => Ok(count),
-            Err(Failed) => {
-                self.link = self.link.saturating_add(1);
-                Err(Failed)
-            }
-        }
+        counted(&mut self.link, read_some(self.rt, room))
     }
 
     fn give(&mut self, line: u32, piece: &[u8]) -> Result<usize, Failed> {
-        match write_some(self.rt, line, piece) {
-            Ok(count) => Ok(count),
-            Err(Failed) => {
-                self.link = self.link.saturating_add(1);
-                Err(Failed)
-            }
-        }
+        counted(&mut self.link, write_some(self.rt, line, piece))
     }
 
     fn shut(&mut self, _line: u32) {}
 
+    fn len(&mut self, file: u8) -> Result<u64, Failed> {
+        let answer = match &self.files {
+            Some(files) => files.len(file),
+            None => Err(Failed),
+        };
+        counted(&mut self.store, answer)
+    }
+
+    fn read_at(&mut self, file: u8, at: u64, room: &mut [u8]) -> Result<usize, Failed> {
+        let answer = match &self.files {
+            Some(files) => files.read(file, at, room),
+            None => Err(Failed),
+        };
+        counted(&mut self.store, answer)
+    }
+
+    fn write_at(&mut self, file: u8, at: u64, piece: &[u8]) -> Result<(), Failed> {
+        let answer = match &self.files {
+            Some(files) => files.write(file, at, piece),
+            None => Err(Failed),
+        };
+        counted(&mut self.store, answer)
+    }
+
+    fn cut(&mut self, file: u8, size: u64) -> Result<(), Failed> {
+        let answer = match &self.files {
+            Some(files) => files.cut(file, size),
+            None => Err(Failed),
+        };
+        counted(&mut self.store, answer)
+    }
+
+    fn sync(&mut self, file: u8) -> Result<(), Failed> {
+        let answer = match &self.files {
+            Some(files) => files.sync(file),
+            None => Err(Failed),
+        };
+        counted(&mut self.store, answer)
+    }
+
     fn now(&mut self) -> u64 {
         seconds(self.rt)
     }
-}
 
-// Reads what is there, again where a signal came in between.
-fn read_some(rt: HostRuntime, room: &mut [u8]) -> Result<usize, Failed>
-    ensures { IfOk result (λ n. n ≤ length room.new) }
-{
-    for _ in 0..u64::MAX {
-        match rt.stdin().read(room) {
-            Ok(count) => return Ok(count),
-            Err(error) if error.kind() == ErrorKind::Interrupted => {}
-            Err(_) => return Err(Failed),
+    fn draw(&mut self, _purpose: Purpose, room: &mut [u8]) -> Result<(), Failed> {
+        match self.rt.fill_bytes(room) {
+            Ok(()) => Ok(()),
+            Err(_) => {
+                self.draw = self.draw.saturating_add(1);
+                Err(Failed)
+            }
         }
-    }
-    Err(Failed)
-}
-
-// Writes a front of the piece, again where a signal came in between.
-fn write_some(rt: HostRuntime, line: u32, piece: &[u8]) -> Result<usize, Failed>
-    ensures bound { IfOk result (λ n. n ≤ length piece.now) }
-    ensures some { IfOk result (λ n. 0 < length piece.now → 0 < n) }
-{
-    if line != 0 {
-        return Err(Failed);
-    }
-    if piece.is_empty() {
-        return Ok(0);
-    }
-    for _ in 0..u64::MAX {
-        match rt.stdout().write(piece) {
-            Ok(0) => return Err(Failed),
-            Ok(count) => return Ok(count),
-            Err(error) if error.kind() == ErrorKind::Interrupted => {}
-            Err(_) => return Err(Failed),
-        }
-    }
-    Err(Failed)
-}
-
-// The system's time. A clock that can't be read, or is set before 1970, tells 0.
-fn seconds(rt: HostRuntime) -> u64 {
-    let Ok(time) = SystemTime::now(&rt) else {
-        return 0;
-    };
-    match time.duration_since(UNIX_EPOCH) {
-        Ok(since) => since.as_secs(),
-        Err(_) => 0,
     }
 }
 
 #[cfg(test)]
 mod tests {
     use super::PipeHost;
-    use crate::Host;
+    use crate::{Host, Purpose};
+    use std::fs;
     use std::rt::HostRuntime;
+    use std::test::Fail;
 
     // Without standard streams: the clock runs behind 2024-01-01, a line other than 0 is at its end, nothing goes to
-    // it, and that alone is a fault.
+    // it, and that alone is a fault. A store keeps what is written to it, and is open once.
     #[test]
-    fn the_edge_answers(rt: HostRuntime) {
+    fn the_edge_answers(rt: HostRuntime) -> Result<(), Fail> {
         let mut host = PipeHost::new(rt);
         let mut room = [0; 4];
         assert!(rt; host.now() > 1_704_067_200);
         assert!(rt; host.take(1, &mut room) == Ok(0));
         assert!(rt; host.give(0, &[]) == Ok(0));
-        assert_eq!(rt; host.link, 0);
         assert!(rt; host.give(1, b"reply").is_err());
-        assert_eq!(rt; host.link, 1);
+        assert!(rt; host.text("no-such-key-file", &mut room).is_err());
+        assert!(rt; host.draw(Purpose::Tag, &mut room).is_ok());
+        assert!(rt; host.len(0).is_err());
+        assert_eq!(rt;
+            (host.link, host.key_file, host.store, host.draw),
+            (1, 1, 1, 0)
+        );
+        assert!(rt; host.attach("edge-of-kms-host").is_ok());
+        assert!(rt; host.cut(0, 0).is_ok());
+        assert!(rt; host.write_at(0, 0, b"abcdef").is_ok());
+        assert!(rt; host.write_at(0, 4, b"XYZ").is_ok());
+        assert!(rt; host.sync(0).is_ok());
+        assert!(rt; host.len(0) == Ok(7));
+        assert!(rt; host.read_at(0, 3, &mut room) == Ok(4));
+        assert!(rt; room == *b"dXYZ");
+        assert!(rt; host.read_at(0, 5, &mut room) == Ok(2));
+        assert!(rt; host.text("edge-of-kms-host.0", &mut room) == Ok(4));
+        assert!(rt; room == *b"abcd");
+        assert!(rt; PipeHost::new(rt).attach("edge-of-kms-host").is_err());
+        fs::remove_file(&rt, "edge-of-kms-host.0")?;
+        fs::remove_file(&rt, "edge-of-kms-host.1")?;
+        Ok(())
     }
 }

@@ -1,73 +1,98 @@
-// The calls of a host in memory.
-ghost use Rattle.std.specs.Prelude.{◌≡◌, ◌≤◌, ◌<◌, ◌++◌, [], ◌∷◌, ◌⊎◌, length, IfOk, OnOk, OnErr, IsTrue, IsFalse, is_err};
-ghost use Rattle.kms_host.specs.History.{Tells, WhereTold, Stops, HasFirst, then_call, answer, given};
-ghost use Rattle.kms_host.specs.Faults.{HasCause, NeverFalls, Rose};
-ghost use Rattle.kms_host.specs.Line.{IsOpen, sent};
-ghost use Rattle.kms_host.specs.Memory.{fresh, faults_of, listing_of, is_listed, present_on, sent_on, moment_at, after_take, after_give, after_call, AddsTo, next};
-ghost use Rattle.kms_host.specs.declared.call.Call.TheVariants as calls;
-ghost use Rattle.kms_host.specs.declared.call.Count.TheVariants as counts;
+// A host in memory, and how it is set up.
+ghost use Rattle.std.specs.Prelude.{◌≡◌, ◌<◌, ◌++◌, [], ◌∷◌, Some, IfOk, OnOk, OnErr};
+ghost use Rattle.kms_host.specs.History.{History, WhereTold};
+ghost use Rattle.kms_host.specs.Disk.{IsImage};
+ghost use Rattle.kms_host.specs.File.{IsPicked};
+ghost use Rattle.kms_host.specs.Line.{sent};
+ghost use Rattle.kms_host.specs.Memory.{fresh, started_over, both, with_key_file, faults_of, listing_of, listing_bytes, draws_for, with_draws, fused, sent_on};
 
 use crate::memory::counter::Counter;
-use crate::memory::log::{Log, gave, took};
-use crate::memory::output::{send, sent_to};
-use crate::memory::source::{Input, pull};
-use crate::{Bytes, Call, Count, Failed, Host, NoMemory};
+use crate::memory::file::File;
+use crate::memory::log::Log;
+use crate::memory::output::sent_to;
+use crate::memory::random::Streams;
+use crate::memory::source::Input;
+use crate::{Bytes, Count, NoMemory, Pick, Purpose};
 use std::alloc::Global;
 use std::marker::Model;
 
 /// A host in memory, which tells all of its calls as long as there is memory for them.
 #[derive(Drop)]
 pub struct MemoryHost {
-    alloc: Global,
-    log: Log,
-    key_file: Counter,
-    store: Counter,
-    link: Counter,
-    draw: Counter,
-    listen: Counter,
-    inputs: Vec<Input>,
-    outputs: Vec<(u32, Bytes)>,
-    moments: Vec<u64>,
-    told: usize,
+    pub(crate) alloc: Global,
+    pub(crate) opening: [Bytes; 2],
+    pub(crate) log: Log,
+    pub(crate) key_file: Counter,
+    pub(crate) store: Counter,
+    pub(crate) link: Counter,
+    pub(crate) draw: Counter,
+    pub(crate) listen: Counter,
+    pub(crate) key_files: Vec<(Bytes, Bytes)>,
+    pub(crate) file_0: File,
+    pub(crate) file_1: File,
+    pub(crate) inputs: Vec<Input>,
+    pub(crate) outputs: Vec<(u32, Bytes)>,
+    pub(crate) moments: Vec<u64>,
+    pub(crate) told: usize,
+    pub(crate) random: Streams,
 }
 
 impl Model for MemoryHost {
     ghost use Rattle.kms_host.specs.Memory.{MemoryState};
-    ghost use Rattle.kms_host.specs.Recording.{history_of, Agrees};
+    ghost use Rattle.kms_host.specs.Host.{state_of, IsTrueToCalls};
 
     ghost Value = { MemoryState };
 
-    ghost view = { λ m. record {
-      history = history_of m.log.calls;
-      wanted = m.log.wanted;
-      counters = record { key_file = m.key_file; store = m.store; link = m.link; draw = m.draw; listen = m.listen };
-      lines = m.inputs.items;
-      outputs = m.outputs.items;
-      moments = m.moments.items;
-      told = m.told;
-    } };
+    ghost view = { state_of };
 
-    ghost invariant = { λ m. Agrees m.log m.outputs.items };
+    ghost invariant = { IsTrueToCalls };
 }
 
 impl MemoryHost {
-    /// A host with an empty store, no line and no moment, which tells that there was no call so far.
+    /// A host with an empty store, no key file, no line and no moment, which tells that there was no call so far.
     pub fn new(alloc: Global) -> Result<MemoryHost, NoMemory>
         ensures { IfOk result (λ m. m ≡ fresh) }
     {
+        let file_0 = Bytes::of(alloc, &[])?;
+        let file_1 = Bytes::of(alloc, &[])?;
+        MemoryHost::restart(alloc, [file_0, file_1])
+    }
+
+    /// A host with these two files of a store, file 0 first, with nothing pending, and otherwise as a new one.
+    pub fn restart(alloc: Global, files: [Bytes; 2]) -> Result<MemoryHost, NoMemory>
+        ensures { IfOk result (λ m. m ≡ started_over (both files)) }
+    {
+        let file_0 = File::of(alloc, files[0].as_slice())?;
+        let file_1 = File::of(alloc, files[1].as_slice())?;
         Ok(MemoryHost {
             alloc,
+            opening: files,
             log: Log::new(alloc),
             key_file: Counter::new(alloc),
             store: Counter::new(alloc),
             link: Counter::new(alloc),
             draw: Counter::new(alloc),
             listen: Counter::new(alloc),
+            key_files: Vec::new(alloc),
+            file_0,
+            file_1,
             inputs: Vec::new(alloc),
             outputs: Vec::new(alloc),
             moments: Vec::new(alloc),
             told: 0,
+            random: Streams::new(alloc),
         })
+    }
+
+    /// Adds a key file with this text. It takes the place of another of its name.
+    pub fn key_file(&mut self, name: &str, text: &[u8]) -> Result<(), NoMemory>
+        ensures ok { OnOk result (self.new ≡ with_key_file name.now text.now self.old) }
+        ensures err { OnErr result (self.new ≡ self.old) }
+    {
+        let name = Bytes::of(self.alloc, name.as_bytes())?;
+        let text = Bytes::of(self.alloc, text)?;
+        self.key_files.insert(0, (name, text))?;
+        Ok(())
     }
 
     /// Adds a line with these bytes, which come in pieces of this length, at least 1. The first is line 0.
@@ -91,6 +116,18 @@ impl MemoryHost {
         Ok(())
     }
 
+    /// Lists bytes that are drawn for a purpose, behind those that were listed for it before. Where none is listed, the
+    /// byte that is drawn after n others is n modulo 256.
+    pub fn random(&mut self, purpose: Purpose, bytes: &[u8]) -> Result<(), NoMemory>
+        ensures ok { OnOk result (self.new ≡ record self.old {
+          random = with_draws purpose (listing_bytes bytes.now (draws_for purpose self.old.random)) self.old.random;
+        }) }
+        ensures err { OnErr result (self.new ≡ self.old) }
+        ensures told { self.new.history ≡ self.old.history }
+    {
+        self.random.list(purpose, bytes)
+    }
+
     /// Lets the nth call of this count fail, from 1.
     pub fn fail(&mut self, count: Count, nth: u64) -> Result<(), NoMemory>
         ensures ok { OnOk result (self.new ≡ record self.old { counters = listing_of count nth self.old.counters }) }
@@ -104,6 +141,14 @@ impl MemoryHost {
             Count::Draw => self.draw.fail(nth),
             Count::Listen => self.listen.fail(nth),
         }
+    }
+
+    /// Lets so many calls of the store pass from now on, and no later one.
+    pub fn fuse(&mut self, calls: u64)
+        ensures after { self.new ≡ record self.old { counters = record self.old.counters { store = fused calls self.old.counters.store } } }
+        ensures told { self.new.history ≡ self.old.history }
+    {
+        self.store.set_fuse(calls);
     }
 
     /// How many calls were out of memory.
@@ -120,92 +165,19 @@ impl MemoryHost {
     {
         sent_to(&self.outputs, line)
     }
-}
 
-impl Host for MemoryHost {
-    ghost history = { λ m. m.history };
-
-    ghost faults = { λ m. faults_of m.counters };
-
-    ghost wanted = { λ m. m.wanted };
-
-    fn take(&mut self, line: u32, room: &mut [u8]) -> Result<usize, Failed>
-        requires room { 0 < length room.old }
-        requires open_line { WhereTold self.old.history (IsOpen line) }
-        ensures told { Tells self.old.history self.new.history (λ was now.
-            now ≡ then_call was (calls.Took line (length room.new) (given room.new result))) }
-        ensures bound { IfOk result (λ n. n ≤ length room.new) }
-        ensures cause { HasCause counts.Link (faults_of self.old.counters) (faults_of self.new.counters) result }
-        ensures stops { Stops self.old.wanted self.new.wanted self.old.history self.new.history }
-        ensures listed { is_err result ≡ is_listed self.old.counters.link }
-        ensures gives { IfOk result (HasFirst (present_on line self.old.lines) room.new) }
-        ensures after { self.new ≡ after_take line result self.old self.new }
+    /// The image that is picked of those that a stop may leave now, file 0 first. `NoMemory` also where the calls are
+    /// told no more.
+    pub fn image(&self, pick: Pick) -> Result<[Bytes; 2], NoMemory>
+        ensures first { IfOk result (λ image. IsPicked pick self.now.file_0 (both image).0) }
+        ensures second { IfOk result (λ image. IsPicked pick self.now.file_1 (both image).1) }
+        ensures image { IfOk result (λ image. (h : History) × (self.now.history ≡ Some h) × IsImage h (both image)) }
     {
-        if self.link.refuses() {
-            self.log.note(Ok(Call::Took(line, room.len(), None)), false);
-            return Err(Failed);
+        if !self.log.tells() {
+            return Err(NoMemory);
         }
-        let count = pull(&mut self.inputs, line, room);
-        let call = took(self.alloc, line, room.len(), &room[..count]);
-        self.log.note(call, false);
-        Ok(count)
+        let file_0 = self.file_0.image(pick)?;
+        let file_1 = self.file_1.image(pick)?;
+        Ok([file_0, file_1])
     }
-
-    fn give(&mut self, line: u32, piece: &[u8]) -> Result<usize, Failed>
-        requires { WhereTold self.old.history (IsOpen line) }
-        ensures told { Tells self.old.history self.new.history (λ was now.
-            now ≡ then_call was (calls.Gave line piece.now (answer result))) }
-        ensures bound { IfOk result (λ n. n ≤ length piece.now) }
-        ensures some { IfOk result (λ n. 0 < length piece.now → 0 < n) }
-        ensures cause { HasCause counts.Link (faults_of self.old.counters) (faults_of self.new.counters) result }
-        ensures stops { Stops self.old.wanted self.new.wanted self.old.history self.new.history }
-        ensures listed { IsTrue (is_listed self.old.counters.link) → IsTrue (is_err result) }
-        ensures other { OnErr result (IsTrue (is_listed self.old.counters.link) ⊎ (self.new.wanted ≡ next self.old.wanted)) }
-        ensures whole { IfOk result (λ n. (n ≡ length piece.now) × AddsTo line piece.now self.old.outputs self.new.outputs) }
-        ensures kept { OnErr result (self.new.outputs ≡ self.old.outputs) }
-        ensures after { self.new ≡ after_give result self.old self.new }
-    {
-        if self.link.refuses() {
-            self.log.note(gave(self.alloc, line, piece, None), false);
-            return Err(Failed);
-        }
-        if send(self.alloc, &mut self.outputs, line, piece).is_err() {
-            self.link.count_fault();
-            self.log.note(gave(self.alloc, line, piece, None), true);
-            return Err(Failed);
-        }
-        self.log
-            .note(gave(self.alloc, line, piece, Some(piece.len())), false);
-        Ok(piece.len())
-    }
-
-    fn shut(&mut self, line: u32)
-        ensures told { Tells self.old.history self.new.history (λ was now. now ≡ then_call was (calls.Shut line)) }
-        ensures cause { NeverFalls (faults_of self.old.counters) (faults_of self.new.counters) }
-        ensures stops { Stops self.old.wanted self.new.wanted self.old.history self.new.history }
-        ensures after { self.new ≡ after_call self.old self.new }
-    {
-        self.log.note(Ok(Call::Shut(line)), false);
-    }
-
-    fn now(&mut self) -> u64
-        ensures told { Tells self.old.history self.new.history (λ was now. now ≡ then_call was (calls.Told result)) }
-        ensures cause { NeverFalls (faults_of self.old.counters) (faults_of self.new.counters) }
-        ensures stops { Stops self.old.wanted self.new.wanted self.old.history self.new.history }
-        ensures moment { result ≡ moment_at self.old.told self.old.moments }
-        ensures after { self.new ≡ record (after_call self.old self.new) { told = next self.old.told } }
-    {
-        let moment = moment_after(&self.moments, self.told);
-        self.told = self.told.saturating_add(1);
-        self.log.note(Ok(Call::Told(moment)), false);
-        moment
-    }
-}
-
-// The moment that is told after so many. The last one repeats, and without one it is 0.
-fn moment_after(moments: &[u64], told: usize) -> u64
-    ensures { result ≡ moment_at told moments.now }
-{
-    let place = told.min(moments.len().saturating_sub(1));
-    moments.get(place).copied().unwrap_or(0)
 }

@@ -1,10 +1,11 @@
 // The calls so far, as long as there is memory for them.
-ghost use Rattle.std.specs.Prelude.{◌≡◌, ◌≤◌, ◌++◌, [], ◌∷◌, ◌&&◌, ◌||◌, not, if◌then◌else◌, Some, IfOk, IsOkAnd, IsTrue};
+ghost use Rattle.std.specs.Prelude.{◌≡◌, ◌≤◌, ◌++◌, [], ◌∷◌, ◌&&◌, ◌||◌, not, if◌then◌else◌, Some, Ok, Err, length, take, is_some, IfOk, IsOkAnd, IsTrue};
 ghost use Rattle.kms_host.specs.Recording.{Notes};
 ghost use Rattle.kms_host.specs.Memory.{next};
 ghost use Rattle.kms_host.specs.declared.call.Call.TheVariants as calls;
+ghost use Rattle.kms_host.specs.declared.call.NameFault.TheVariants as faults;
 
-use crate::{Bytes, Call, NoMemory};
+use crate::{Bytes, Call, NameFault, NoMemory, Purpose};
 use std::alloc::Global;
 use std::marker::Model;
 
@@ -32,6 +33,13 @@ impl Log {
             tells: true,
             wanted: 0,
         }
+    }
+
+    /// Whether there was memory for every call.
+    pub fn tells(&self) -> bool
+        ensures { result ≡ is_some self.now.calls }
+    {
+        self.tells
     }
 
     /// How many calls were out of memory.
@@ -93,4 +101,36 @@ pub fn gave(alloc: Global, line: u32, piece: &[u8], sent: Option<usize>) -> Resu
     ensures { IfOk result (λ c. c ≡ calls.Gave line piece.now sent) }
 {
     Ok(Call::Gave(line, Bytes::of(alloc, piece)?, sent))
+}
+
+/// The text that a key file gave, which are so many bytes at the front of the room.
+pub fn named(alloc: Global, name: &str, room: &[u8], count: usize) -> Result<Call, NoMemory>
+    requires { count ≤ length room.now }
+    ensures { IfOk result (λ c. c ≡ calls.Text name.now (length room.now) (Ok (take count room.now))) }
+{
+    let name = Bytes::of(alloc, name.as_bytes())?;
+    let text = Bytes::of(alloc, &room[..count])?;
+    Ok(Call::Text(name, room.len(), Ok(text)))
+}
+
+/// A key file that gave none.
+pub fn unnamed(alloc: Global, name: &str, room: usize) -> Result<Call, NoMemory>
+    ensures { IfOk result (λ c. c ≡ calls.Text name.now room (Err faults.Failed)) }
+{
+    let name = Bytes::of(alloc, name.as_bytes())?;
+    Ok(Call::Text(name, room, Err(NameFault::Failed)))
+}
+
+/// A name for the store, and how that came out.
+pub fn attached(alloc: Global, name: &str, done: Result<(), NameFault>) -> Result<Call, NoMemory>
+    ensures { IfOk result (λ c. c ≡ calls.Attached name.now done) }
+{
+    Ok(Call::Attached(Bytes::of(alloc, name.as_bytes())?, done))
+}
+
+/// The bytes that were drawn.
+pub fn drew(alloc: Global, purpose: Purpose, bytes: &[u8]) -> Result<Call, NoMemory>
+    ensures { IfOk result (λ c. c ≡ calls.Drew purpose (Some bytes.now)) }
+{
+    Ok(Call::Drew(purpose, Some(Bytes::of(alloc, bytes)?)))
 }
