@@ -1,0 +1,21 @@
+pub mod CommitLaws
+pub mod CreateLaws
+pub mod CurrentLaws
+pub mod Cutting
+pub mod EmptyLaws
+pub mod FaultLaws
+pub mod FileLaws
+pub mod FrameLaws
+pub mod FreshLaws
+pub mod GatherLaws
+pub mod LastingLaws
+pub mod OpeningLaws
+pub mod PlacedLaws
+pub mod ReadingLaws
+pub mod RecordLaws
+mod Refused
+pub mod RepairLaws
+pub mod RestLaws
+pub mod StandingLaws
+pub mod WalkLaws
+pub mod Writing

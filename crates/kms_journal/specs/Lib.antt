@@ -1,0 +1,12 @@
+pub mod Answers
+pub mod Commit
+pub mod Create
+pub mod Current
+pub mod Device
+pub mod Fault
+pub mod Header
+pub mod Lasting
+pub mod Position
+pub mod Recovery
+pub mod Standing
+pub mod Walk

@@ -1,0 +1,108 @@
+// An opened store, and how it grows.
+ghost use Rattle.std.specs.Prelude.{◌≡◌, ◌+◌, ◌-◌, ◌^◌, ◌<◌, ◌≤◌, length, OnOk, OnErr, is_err};
+ghost use Rattle.kms_host.specs.Faults.{HasCause};
+ghost use Rattle.kms_host.specs.History.{Tells, WhereTold, Stops};
+ghost use Rattle.kms_host.specs.declared.call.Count.TheVariants as counts;
+ghost use Rattle.kms_journal.specs.Commit.{IsFramed, Commits};
+ghost use Rattle.kms_journal.specs.Answers.{Gathers};
+ghost use Rattle.kms_journal.specs.Device.{HasStoreCause};
+ghost use Rattle.kms_journal.specs.Position.{IsPlaced, position_at};
+ghost use Rattle.kms_journal.specs.Standing.{Standing};
+ghost use Rattle.kms_journal.specs.declared.fault.JournalFault.TheVariants as faults;
+ghost use Rattle.kms_journal.specs.Fault.{Fails, is_failed_opening};
+
+use crate::gather::read_chain;
+use crate::header::{Current, Header};
+use crate::through::write_through;
+use crate::{Chain, JournalFault, StoreFault};
+use kms_host::Host;
+use std::alloc::Global;
+use std::marker::Model;
+
+/// How many bytes are read at once, at most.
+pub const ROOM: usize = 65_536;
+
+/// An opened store: its current file's header, the place of that file's last commit mark, and the room for reading.
+#[derive(Drop)]
+pub struct Journal {
+    header: Header,
+    end: u64,
+    room: Vec<u8>,
+}
+
+impl Model for Journal {
+    ghost use Rattle.std.specs.Prelude.{◌≡◌, ◌+◌, ◌<◌, ◌≤◌, ◌^◌, length};
+    ghost use Rattle.kms_journal.specs.Position.{Position, position_at};
+
+    ghost Value = { Position };
+
+    ghost view = { λ j. position_at j.header j.end };
+
+    ghost invariant = { λ j. (j.header.file < 2) × (50 + j.header.snapshot ≤ j.end) × (j.end + 1 < 2 ^ 62) × (length j.room.items ≡ 65536) };
+}
+
+impl Journal {
+    /// A journal of this header, whose last commit mark is at this place.
+    pub(crate) fn of(header: Header, end: u64, room: Vec<u8>) -> Journal
+        requires file { header.file < 2 }
+        requires order { 50 + header.snapshot ≤ end }
+        requires most { end + 1 < 2 ^ 62 }
+        requires room { length room.items ≡ 65536 }
+        ensures { result ≡ position_at header end }
+    {
+        Journal { header, end, room }
+    }
+
+    /// The generation of the current file, at least 1.
+    pub fn generation(&self) -> u64
+        ensures { result ≡ self.now.generation }
+    {
+        self.header.generation
+    }
+
+    /// How many bytes the records take: those behind the commit mark that stands behind the snapshot.
+    pub fn records(&self) -> u64
+        ensures { result ≡ self.now.end - self.now.start }
+    {
+        self.end - (50 + self.header.snapshot)
+    }
+
+    /// What the store stands for, with all its records, read in pieces through the journal's room. Answers StoreFault
+    /// exactly where a call on the store's files failed, and NoMemory for the only other fault.
+    pub fn bodies<H: Host>(&mut self, alloc: Global, host: &mut H) -> Result<Chain, JournalFault>
+        requires { WhereTold (H.history host.old) (λ h. (s : Standing) × IsPlaced self.old h s) }
+        ensures told { Tells (H.history host.old) (H.history host.new) (λ was now. (s : Standing)
+            → IsPlaced self.old was s → Gathers s result was now) }
+        ensures stays { self.new ≡ self.old }
+        ensures cause { HasStoreCause faults.StoreFault (H.faults host.old) (H.faults host.new) result }
+        ensures failed { Tells (H.history host.old) (H.history host.new) (Fails (is_failed_opening result)) }
+        ensures stops { Stops (H.wanted host.old) (H.wanted host.new) (H.history host.old) (H.history host.new) }
+    {
+        let current = Current {
+            header: self.header,
+            size: self.end + 1,
+        };
+        Ok(read_chain(alloc, host, &current, &mut self.room)?)
+    }
+
+    /// Adds a record. `framed` is its length in 4 bytes, big-endian, its bytes, and a clear commit mark, a 0. It is
+    /// written behind the last commit mark and synced, and then that commit mark is set by a write of its own and
+    /// synced. From an Ok on the record is on the disk. A fault is answered exactly where a call on the store's files
+    /// failed, and the store has the record or hasn't then: open it anew.
+    pub fn commit<H: Host>(&mut self, host: &mut H, framed: &[u8]) -> Result<(), StoreFault>
+        requires framed { IsFramed framed.now }
+        requires placed { WhereTold (H.history host.old) (λ h. (s : Standing) × IsPlaced self.old h s) }
+        ensures told { Tells (H.history host.old) (H.history host.new) (λ was now. (s : Standing)
+            → IsPlaced self.old was s → Commits self.old self.new framed.now result s was now) }
+        ensures moved { OnOk result (self.new ≡ record self.old { end = self.old.end + length framed.now }) }
+        ensures stays { OnErr result (self.new ≡ self.old) }
+        ensures cause { HasCause counts.Store (H.faults host.old) (H.faults host.new) result }
+        ensures failed { Tells (H.history host.old) (H.history host.new) (Fails (is_err result)) }
+        ensures stops { Stops (H.wanted host.old) (H.wanted host.new) (H.history host.old) (H.history host.new) }
+    {
+        write_through(host, self.header.file, self.end + 1, framed)?;
+        write_through(host, self.header.file, self.end, &[1])?;
+        self.end += framed.len() as u64;
+        Ok(())
+    }
+}

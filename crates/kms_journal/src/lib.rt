@@ -1,0 +1,23 @@
+//! The two files of a store: commit marks, records, and what a stop at any moment leaves of them.
+#![tactic(auto)]
+
+mod chain;
+mod creation;
+mod current;
+mod fault;
+mod gather;
+mod header;
+mod journal;
+pub mod laws;
+mod recovery;
+#[cfg(test)]
+mod tests;
+mod through;
+mod walk;
+
+pub use chain::{Bodies, Chain};
+pub use creation::create;
+pub use current::living;
+pub use fault::{CreateFault, JournalFault, Place, StoreFault};
+pub use journal::Journal;
+pub use recovery::recover;
