@@ -1,0 +1,13 @@
+pub mod SortedLaws
+pub mod OrderLaws
+pub mod SortsLaws
+pub mod PageLaws
+pub mod PlainLaws
+pub mod TextLaws
+pub mod NumberLaws
+pub mod LookupLaws
+pub mod LinkLaws
+pub mod WalkLaws
+pub mod RowLaws
+pub mod CreationLaws
+pub mod NextLaws

@@ -1,0 +1,12 @@
+pub mod Filter
+pub mod Laws
+pub mod Link
+pub mod NewSort
+pub mod Number
+pub mod Order
+pub mod Page
+pub mod Parameters
+pub mod Query
+pub mod Rules
+pub mod Sorted
+pub mod Sorts
