@@ -10,7 +10,6 @@ is missing is skipped, and said. The status is 1 if anything differs.
 import base64
 import hashlib
 import hmac
-import os
 import random
 import shutil
 import subprocess
@@ -18,8 +17,11 @@ import sys
 
 try:
     from cryptography.fernet import Fernet
+    from cryptography.hazmat.primitives.ciphers import Cipher, algorithms, modes
 except ImportError:
     Fernet = None
+
+ALPHABET = "ABCDEFGHIJKLMNOPQRSTUVWXYZabcdefghijklmnopqrstuvwxyz0123456789-_"
 
 
 def answers(program, lines):
@@ -32,6 +34,46 @@ def openssl_block(option, key, block):
         ["openssl", "enc", option, "-aes-128-ecb", "-nopad", "-K", key.hex()], input=block, capture_output=True, check=True
     )
     return done.stdout.hex()
+
+
+def tag_of(key, signed):
+    return hmac.new(key[:16], signed, hashlib.sha256).digest()
+
+
+def answer_of(key, text):
+    """The plain bytes of a token in hexadecimal digits, or the name of the first fault of its text."""
+    try:
+        raw = base64.b64decode(text, altchars=b"-_", validate=True)
+    except ValueError:
+        return "Base64"
+    if base64.urlsafe_b64encode(raw).decode() != text:
+        return "Base64"
+    if len(raw) < 73:
+        return "Short"
+    if raw[0] != 0x80:
+        return "Version"
+    if (len(raw) - 57) % 16:
+        return "Length"
+    if tag_of(key, raw[:-32]) != raw[-32:]:
+        return "Mac"
+    decryptor = Cipher(algorithms.AES(key[16:]), modes.CBC(raw[9:25])).decryptor()
+    plain = decryptor.update(raw[25:-32]) + decryptor.finalize()
+    count = plain[-1]
+    if count not in range(1, 17) or plain[-count:] != bytes([count]) * count:
+        return "Padding"
+    return plain[:-count].hex()
+
+
+def with_faults(draw, key, token):
+    """Each front of a token, it with each character changed, and three that are signed anew."""
+    raw = base64.urlsafe_b64decode(token)
+    texts = [token[:length] for length in range(len(token))]
+    for at, was in enumerate(token):
+        for other in {draw.choice(ALPHABET), draw.choice("=+/ .~"), "A"} - {was}:
+            texts.append(token[:at] + other + token[at + 1 :])
+    for signed in [raw[:-33], raw[:-33] + bytes([raw[-33] ^ 1]), b"\x81" + raw[1:-32]]:
+        texts.append(base64.urlsafe_b64encode(signed + tag_of(key, signed)).decode())
+    return texts
 
 
 def compare(name, lines, wanted, found):
@@ -86,14 +128,13 @@ def main():
     ]
     good &= compare("sealed by cryptography, opened here", lines, [plain.hex() for _, _, _, plain in sealed], answers(program, lines))
 
-    changed = []
-    for key, _, _, _ in sealed:
-        token = bytearray(Fernet(base64.urlsafe_b64encode(key)).encrypt(os.urandom(20)))
-        at = draw.randrange(len(token) - 3)
-        token[at] = ord("A") if token[at] != ord("A") else ord("B")
-        changed.append(f"unseal {key.hex()} {token.decode()}")
-    refused = ["refused" if got in ("Base64", "Short", "Version", "Length", "Mac") else got for got in answers(program, changed)]
-    good &= compare("a changed character is refused", changed, ["refused"] * len(changed), refused)
+    cases = []
+    for length in [0, 15, 16, 33, 50, 63]:
+        key = draw.randbytes(32)
+        token = Fernet(base64.urlsafe_b64encode(key)).encrypt(draw.randbytes(length)).decode()
+        cases += [(key, text) for text in with_faults(draw, key, token)]
+    lines = [f"unseal {key.hex()} {text}" for key, text in cases]
+    good &= compare("cut and changed tokens, by their faults", lines, [answer_of(key, text) for key, text in cases], answers(program, lines))
     return 0 if good else 1
 
 

@@ -67,7 +67,7 @@ pub four_words : (a b c d : List ℕ) → IsBytes 4 a → IsBytes 4 b → IsByte
 four_words a b c d ha hb hc hd =
     append_bytes 12 4 (a ++ b ++ c) d (append_bytes 8 4 (a ++ b) c (append_bytes 4 4 a b ha hb) hc) hd
 
-column_bytes : (a b c d : ℕ) → a < 256 → b < 256 → c < 256 → d < 256 → IsBytes 4 (a ∷ b ∷ c ∷ d ∷ [])
+pub column_bytes : (a b c d : ℕ) → a < 256 → b < 256 → c < 256 → d < 256 → IsBytes 4 (a ∷ b ∷ c ∷ d ∷ [])
 column_bytes a b c d ha hb hc hd = record {
   len = refl;
   fits = one_more_fits a (b ∷ c ∷ d ∷ []) ha (one_more_fits b (c ∷ d ∷ []) hb

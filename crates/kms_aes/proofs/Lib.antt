@@ -10,3 +10,4 @@ pub mod ScheduleLaws
 pub mod RoundLaws
 pub mod ByteLists
 pub mod Uniqueness
+pub mod Existence

@@ -10,7 +10,7 @@ use Rattle.kms_aes.proofs.MixLaws.{unmixed_column, unmixed_column-mixed}
 use Rattle.kms_aes.proofs.States.{sixteen, appended, sum_of-twice}
 use Rattle.kms_aes.proofs.ByteLists.{Fit, sub_bytes_block, shift_rows_block, mix_columns_block, round_key_block, after_rounds_block}
 
-unsubstituted : ℕ → ℕ
+unfoldable pub unsubstituted : ℕ → ℕ
 unsubstituted b = get_or INVERSE_SBOX b 0
 
 unsubstituted_test : all_below 256 (λ b. unsubstituted (substitute b) == b) ≡ true
@@ -30,7 +30,7 @@ sub_bytes-apart : (s t : List ℕ) → IsBlock s → IsBlock t → sub_bytes s �
 unfolding sub_bytes
 sub_bytes-apart s t hs ht e = sym (restored s hs.fits) ∙ ap (map unsubstituted) e ∙ restored t ht.fits
 
-turned_back : List ℕ → List ℕ
+unfoldable pub turned_back : List ℕ → List ℕ
 turned_back s =
     get_or s 0 0 ∷ get_or s 13 0 ∷ get_or s 10 0 ∷ get_or s 7 0 ∷ get_or s 4 0 ∷ get_or s 1 0 ∷ get_or s 14 0 ∷ get_or s 11 0
     ∷ get_or s 8 0 ∷ get_or s 5 0 ∷ get_or s 2 0 ∷ get_or s 15 0 ∷ get_or s 12 0 ∷ get_or s 9 0 ∷ get_or s 6 0 ∷ get_or s 3 0 ∷ []
@@ -42,7 +42,7 @@ turned_back-shift_rows s h = sym (sixteen s h.len)
 shift_rows-apart : (s t : List ℕ) → IsBlock s → IsBlock t → shift_rows s ≡ shift_rows t → s ≡ t
 shift_rows-apart s t hs ht e = sym (turned_back-shift_rows s hs) ∙ ap turned_back e ∙ turned_back-shift_rows t ht
 
-unmixed_columns : List ℕ → List ℕ
+unfoldable pub unmixed_columns : List ℕ → List ℕ
 unmixed_columns s =
     unmixed_column (get_or s 0 0) (get_or s 1 0) (get_or s 2 0) (get_or s 3 0)
     ++ unmixed_column (get_or s 4 0) (get_or s 5 0) (get_or s 6 0) (get_or s 7 0)

@@ -78,8 +78,11 @@ last_round key state = sum_of (shift_rows (sub_bytes state)) (round_key key 10)
 unfoldable pub encrypt : List ℕ → List ℕ → List ℕ
 encrypt key block = last_round key (after_rounds key block 9)
 
--- a block is enciphered to a block, and two blocks that are enciphered to one are one
+-- enciphering takes the blocks one to one onto the blocks: a block is enciphered to a block, two that
+-- are enciphered to one are one, and each block is one that some block is enciphered to
 pub record EnciphersOneToOne : Type 0 where
   pub block : (key plain : List ℕ) → IsBlock key → IsBlock plain → IsBlock (encrypt key plain)
   pub apart : (key first second : List ℕ) → IsBlock key → IsBlock first → IsBlock second
       → encrypt key first ≡ encrypt key second → first ≡ second
+  pub onto : (key block : List ℕ) → IsBlock key → IsBlock block
+      → ((plain : List ℕ) × IsBlock plain × (encrypt key plain ≡ block))

@@ -26,7 +26,7 @@ decoded_base64url text bytes is = ap (decode_of url_safe) is.spelled ∙ decode_
 apart : (e : DecodeError) (bytes : List ℕ) → ◌≡◌ {A = Result (List ℕ) DecodeError} (Err e) (Ok bytes) → ⊥
 apart e bytes h = cc
 
-same : (a b : List ℕ) → ◌≡◌ {A = Result (List ℕ) DecodeError} (Ok a) (Ok b) → a ≡ b
+pub same : (a b : List ℕ) → ◌≡◌ {A = Result (List ℕ) DecodeError} (Ok a) (Ok b) → a ≡ b
 same a b h = cc
 
 -- what does not decode is no base64url

@@ -5,3 +5,5 @@ pub mod TokenLaws
 pub mod PaddingLaws
 pub mod OpenLaws
 pub mod Unique
+pub mod Verdict
+pub mod RoomLaws

@@ -22,16 +22,16 @@ use Rattle.kms_fernet.proofs.PaddingLaws.{last_is_count}
 use Rattle.kms_fernet.proofs.KeyLaws.{one_base64url}
 use Rattle.kms_fernet.proofs.OpenLaws.{take_bytes, drop_bytes}
 
-append_bytes : (xs ys : List ℕ) → IsBytes xs → IsBytes ys → IsBytes (xs ++ ys)
+pub append_bytes : (xs ys : List ℕ) → IsBytes xs → IsBytes ys → IsBytes (xs ++ ys)
 append_bytes [] ys hx hy i = hy i
 append_bytes (x ∷ xs) ys hx hy zero = hx 0
 append_bytes (x ∷ xs) ys hx hy (suc i) = append_bytes xs ys (λ j. hx (suc j)) hy i
 
-push_byte : (x : ℕ) (xs : List ℕ) → x < 256 → IsBytes xs → IsBytes (x ∷ xs)
+pub push_byte : (x : ℕ) (xs : List ℕ) → x < 256 → IsBytes xs → IsBytes (x ∷ xs)
 push_byte x xs h hs zero = h
 push_byte x xs h hs (suc i) = hs i
 
-none_bytes : IsBytes []
+pub none_bytes : IsBytes []
 none_bytes i = omega arith
 
 below : (a : ℕ) → a % 256 < 256
@@ -222,7 +222,7 @@ record IsSealed (key text plain : List ℕ) : Type 0 where
   opens : OpensBytes key raw plain
   padded_is : opens.deciphered ≡ padded plain
 
-half : (key : List ℕ) → IsCountedBytes 32 key → IsBlock (enciphering_key key)
+pub half : (key : List ℕ) → IsCountedBytes 32 key → IsBlock (enciphering_key key)
 half key h = record { len = let d = length-drop 16 key in let l = h.len in omega arith; fits = drop_bytes 16 key h.fits }
 
 signed_bytes : (moment : ℕ) (iv ciphertext : List ℕ) → IsBytes iv → IsBytes ciphertext → IsBytes (signed_part moment iv ciphertext)
@@ -266,7 +266,7 @@ sealed key text plain hk o =
       padded_is = refl;
     }
 
-iv_block : (raw : List ℕ) → IsBytes raw → 73 ≤ length raw → IsBlock (iv_of raw)
+pub iv_block : (raw : List ℕ) → IsBytes raw → 73 ≤ length raw → IsBlock (iv_of raw)
 iv_block raw fits long = record {
   len = let a = length-take 16 (drop 9 raw) in let b = length-drop 9 raw in omega arith;
   fits = take_bytes 16 (drop 9 raw) (drop_bytes 9 raw fits);

@@ -1,8 +1,8 @@
 -- What holds of tokens.
-use Rattle.std.specs.Prelude.{◌≡◌, ℕ, ◌^◌, ◌<◌, List}
+use Rattle.std.specs.Prelude.{◌≡◌, ℕ, ◌^◌, ◌<◌, ◌⊎◌, List}
 use Rattle.base64.specs.GeneralPurpose.{IsBytes}
 use Rattle.kms_aes.specs.Cipher.{IsBytes as IsCountedBytes, IsBlock}
-use Rattle.kms_fernet.specs.Token.{IsToken, Opens, OpensToNone, IsFault}
+use Rattle.kms_fernet.specs.Token.{IsToken, Opens, OpensToOne, OpensToNone, IsFault}
 use Rattle.kms_fernet.specs.declared.open_fault.OpenFault.{OpenFault}
 
 -- what is sealed opens to what was sealed, a text opens to one plain text at most, and has no fault
@@ -16,3 +16,21 @@ pub record TokensOpenOnce : Type 0 where
       → IsFault key text fault → OpensToNone key text
   pub one_fault : (key text : List ℕ) (first second : OpenFault)
       → IsFault key text first → IsFault key text second → first ≡ second
+
+-- the text opens to one plain text, and has no fault
+pub record OpensOnce (key text : List ℕ) : Type 0 where
+  pub plain : List ℕ
+  pub opens : Opens key text plain
+  pub only : OpensToOne key text plain
+  pub sound : (fault : OpenFault) → ¬ IsFault key text fault
+
+-- the text has one fault, and does not open
+pub record FailsOnce (key text : List ℕ) : Type 0 where
+  pub fault : OpenFault
+  pub is_fault : IsFault key text fault
+  pub only : (other : OpenFault) → IsFault key text other → other ≡ fault
+  pub closed : OpensToNone key text
+
+-- whatever the text, one of the two is so
+abbrev pub OpensOrFails : Type 0
+OpensOrFails = (key text : List ℕ) → IsCountedBytes 32 key → OpensOnce key text ⊎ FailsOnce key text

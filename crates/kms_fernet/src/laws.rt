@@ -1,8 +1,14 @@
 // What holds of tokens.
-ghost use Rattle.kms_fernet.specs.Laws.{TokensOpenOnce};
+ghost use Rattle.kms_fernet.specs.Laws.{OpensOrFails, TokensOpenOnce};
 
 /// What `seal` gives opens to what was sealed. A text opens to one plain text at most, and not where
 /// it has a fault, of which it has one at most.
 pub fn tokens_open_once()
     ensures { TokensOpenOnce }
+{}
+
+/// Under a key of 32 bytes each text either opens, to just one plain text, and has no fault, or has
+/// just one fault, and opens to nothing.
+pub fn opens_or_fails()
+    ensures { OpensOrFails }
 {}

@@ -1,9 +1,10 @@
 // Opening (the Fernet specification, "Verifying").
-ghost use Rattle.std.specs.Prelude.{◌≡◌, ◌≢◌, ◌↔◌, ℕ, ◌+◌, ◌*◌, ◌/◌, ◌≤◌, length, take, replicate, IsTrue, MatchOption, IfOk, OnOk, IfErr, OnErr};
+ghost use Rattle.std.specs.Prelude.{◌≡◌, ◌≢◌, ◌↔◌, ℕ, ◌≤◌, length, take, replicate, IsTrue, MatchOption, IfOk, OnOk, IfErr, OnErr};
 ghost use Rattle.kms_fernet.specs.Cbc.{EndsInPadding};
+ghost use Rattle.kms_fernet.specs.Key.{DecodesWithin};
 ghost use Rattle.kms_fernet.specs.Token.{IsFramed, IsSigned, OpensBytes, Opens, OpensToOne, OpensToNone, IsBytesFault, IsFault};
 
-use crate::base64url::decoded;
+use crate::base64url::{decoded, decoded_len};
 use crate::cbc::decipher;
 use crate::key::{FernetKey, cipher, tag};
 use crate::open_fault::OpenFault;
@@ -92,7 +93,7 @@ fn open_bytes(key: &[u8; 32], raw: &mut [u8]) -> Result<usize, OpenFault>
 
 /// Opens a token at the front of the room, and says how many plain bytes stand there then.
 pub(crate) fn open_into(key: &[u8; 32], token: &[u8], room: &mut [u8]) -> Result<usize, OpenFault>
-    requires { (length token.now + 3) / 4 * 3 ≤ length room.old }
+    requires { DecodesWithin token.now (length room.old) }
     ensures within { IfOk result (λ n. n ≤ length room.new) }
     ensures ok { IfOk result (λ n. Opens key.now token.now (take n room.new)) }
     ensures only { IfOk result (λ n. OpensToOne key.now token.now (take n room.new)) }
@@ -106,14 +107,14 @@ pub(crate) fn open_into(key: &[u8; 32], token: &[u8], room: &mut [u8]) -> Result
 }
 
 /// The plain bytes of a token under the key, or the first fault of its text. Memory is taken once,
-/// for the bytes that stand in the token.
+/// for just the bytes that stand in the token.
 pub fn unseal(alloc: Global, key: &FernetKey, token: &[u8]) -> Result<Bytes, OpenFault>
     ensures ok { IfOk result (λ plain. Opens key.now token.now plain) }
     ensures only { IfOk result (λ plain. OpensToOne key.now token.now plain) }
     ensures err { IfErr result (λ fault. fault ≢ OpenFault.NoMemory → IsFault key.now token.now fault) }
     ensures none { IfErr result (λ fault. fault ≢ OpenFault.NoMemory → OpensToNone key.now token.now) }
 {
-    let Ok(room) = vec![in alloc; 0u8; token.len().div_ceil(4) * 3] else {
+    let Ok(room) = vec![in alloc; 0u8; decoded_len(token)] else {
         return Err(OpenFault::NoMemory);
     };
     let mut room = room;

@@ -12,6 +12,20 @@ const UNEVEN: &[u8] =
 const UNPADDED: &[u8] =
     b"gAAAAAAdwJ6wAAECAwQFBgcICQoLDA0OD0A62wlCSCzl5ZSsDM3xI1pH1pX4pMNcy71z9zWwt57Dvn8nsFBePxRdLoNigl35BA==";
 
+// The token that Python's `cryptography` makes of 50 bytes, with the key, time and vector of the others.
+const LONG: &[u8] =
+    b"gAAAAAAdwJ6wAAECAwQFBgcICQoLDA0OD_O8tvnwCccwg5FUR9yNc2AjeM-nC6QWypFO8nPo7eJqOMq6YkVVSogRKmjdi6FXSvRKSEUcD2znaaGKUKWvavfsLpQ__0wnh1yAHD5ZrRI07iGBeSBINOu5nUmzAolYWA==";
+// The first letters of the faults of its fronts, by their lengths, as `answer_of` of
+// tests/compare_crypto.py names them.
+const CUTS: &[u8] =
+    b"SBBBSBBBSBBBSBBBSBBBSBBBSBBBSBBBSBBBSBBBSBBBSBBBSBBBSBBBSBBBSBBBSBBBSBBBSBBBSBBBSBBBSBBBSBBBSBBBSBBBLBBBLBBBLBBBLBBBLBBBLBBBLBBBLBBBLBBBLBBBMBBBLBBBLBBBLBBBLBBBLBBB";
+// Those of what it is with one character changed, by its place: to the next of the alphabet, or from
+// `=` to `A`.
+const CHANGED: &[u8] =
+    b"VMMMMMMMMMMMMMMMMMMMMMMMMMMMMMMMMMMMMMMMMMMMMMMMMMMMMMMMMMMMMMMMMMMMMMMMMMMMMMMMMMMMMMMMMMMMMMMMMMMMMMMMMMMMMMMMMMMMMMMMMMMMMMMMMMMMMMMMMMMMMMMMMMMMMMMMMMMMMMMMMBLB";
+
+const ALPHABET: &[u8] = b"ABCDEFGHIJKLMNOPQRSTUVWXYZabcdefghijklmnopqrstuvwxyz0123456789-_";
+
 const IV: [u8; 16] = [0, 1, 2, 3, 4, 5, 6, 7, 8, 9, 10, 11, 12, 13, 14, 15];
 
 // RFC 4231, test case 2, and the same text in two parts.
@@ -86,5 +100,48 @@ fn wraps_and_unwraps(rt: HostRuntime) -> Result<(), Fail> {
     assert_eq!(rt; unwrap_key(&FernetKey::of(project_key), &wrapped), None);
     assert_eq!(rt; FernetKey::read(&KEY[..43]).is_none(), true);
     assert_eq!(rt; master.bytes()[0], 0x73);
+    Ok(())
+}
+
+fn named(letter: u8) -> Option<OpenFault> {
+    match letter {
+        b'B' => Some(OpenFault::Base64),
+        b'S' => Some(OpenFault::Short),
+        b'V' => Some(OpenFault::Version),
+        b'L' => Some(OpenFault::Length),
+        b'M' => Some(OpenFault::Mac),
+        _ => None,
+    }
+}
+
+fn next_symbol(symbol: u8) -> u8 {
+    match ALPHABET.iter().position(|other| *other == symbol) {
+        Some(place) => ALPHABET[(place + 1) % 64],
+        None => b'A',
+    }
+}
+
+#[test]
+fn names_the_fault_of_each_cut_and_each_changed_byte(rt: HostRuntime) -> Result<(), Fail> {
+    let alloc = rt.alloc();
+    let key = FernetKey::read(KEY).ok_or("no key")?;
+    assert_eq!(rt; (CUTS.len(), CHANGED.len()), (LONG.len(), LONG.len()));
+    for (len, letter) in CUTS.iter().enumerate() {
+        let front = LONG.get(..len).ok_or("no front")?;
+        assert_eq!(rt; unseal(alloc, &key, front).err(), named(*letter));
+    }
+    let mut text = LONG.to_vec(alloc)?;
+    for (at, letter) in CHANGED.iter().enumerate() {
+        let was = *text.get(at).ok_or("no byte")?;
+        text[at] = next_symbol(was);
+        assert_eq!(rt; unseal(alloc, &key, &text).err(), named(*letter));
+        for change in 1..=255u8 {
+            text[at] = was ^ change;
+            assert_eq!(rt; unseal(alloc, &key, &text).is_err(), true);
+        }
+        text[at] = was;
+    }
+    let plain = unseal(alloc, &key, &text).map_err(|_| "closed")?;
+    assert_eq!(rt; plain.as_slice().len(), 50);
     Ok(())
 }

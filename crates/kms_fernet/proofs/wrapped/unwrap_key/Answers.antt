@@ -1,7 +1,11 @@
-use Rattle.std.proofs.Common.{sym, subst, List, ℕ}
+use Rattle.std.proofs.Common.{arith, sym, subst, List, ℕ}
 use Rattle.kms_fernet.specs.Key.{base64url}
 use Rattle.kms_fernet.specs.Token.{Opens}
+use Rattle.kms_fernet.proofs.RoomLaws.{within_thirds}
 use Rattle.kms_fernet.proofs.wrapped.unwrap_key.Goals as goal
+
+pub open_into-requires : goal.open_into-requires
+open_into-requires c = λ bytes is. omega (arith, within_thirds c.args.wrapped.now bytes is, c.told-wrapped)
 
 pub returns-in-None : goal.returns-in-None
 returns-in-None c = λ key of.

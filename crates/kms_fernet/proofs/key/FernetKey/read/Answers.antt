@@ -1,7 +1,11 @@
 use Rattle.std.proofs.Common.{arith}
 use Rattle.std.proofs.lemmas.List.{length-take}
 use Rattle.kms_fernet.proofs.KeyLaws.{none_by_length, none_by_text, none_by_count}
+use Rattle.kms_fernet.proofs.RoomLaws.{within_thirds}
 use Rattle.kms_fernet.proofs.key.FernetKey.read.Goals as goal
+
+pub decoded-requires : goal.decoded-requires
+decoded-requires c = λ bytes is. omega (arith, within_thirds c.args.text.now bytes is, c.if-text-ne44.false)
 
 pub returns-then-text-ne44 : goal.returns-then-text-ne44
 returns-then-text-ne44 c = none_by_length c.args.text.now c.if-text-ne44.true
