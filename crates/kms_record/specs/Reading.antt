@@ -1,0 +1,118 @@
+-- How bytes are read from their front, as functions on lists: Some value and the bytes behind it, or None. Only private
+-- contracts name these. What they read is said by the grammar, which the public contracts name.
+use Rattle.std.specs.Prelude.{ℕ, zero, suc, ◌^◌, ◌≡◌, Bool, true, false, List, [], ◌∷◌, length, take, drop, Option, Some, None, Result, Ok, Err, option_and_then, ◌==◌, ◌&&◌, nat_lt, nat_le, if◌then◌else◌}
+use Rattle.std.specs.Int.{Width, w16, w64, byte_len, from_be_bytes}
+use Rattle.std.specs.Str.{is_utf8}
+use Rattle.kms_world.specs.Name.{is_name}
+use Rattle.kms_world.specs.Times.{end_of_times}
+use Rattle.kms_world.specs.declared.secret.SecretKind.{SecretKind}
+use Rattle.kms_world.specs.declared.secret.SecretKind.TheVariants.{Symmetric, Public, Private, Passphrase, Certificate, Opaque}
+use Rattle.kms_record.specs.declared.read_error.ReadError.{ReadError}
+use Rattle.kms_record.specs.declared.read_error.ReadError.TheVariants as errors
+use Rattle.kms_record.specs.declared.read_error.Malformed.{Malformed}
+
+-- what a function that takes no memory returned, seen by view, is what reading gives
+abbrev pub Finds : {X Y : Type 0} → (X → Y) → Result X Malformed → Option Y → Type 0
+Finds view (Ok x) read = read ≡ Some (view x)
+Finds view (Err e) read = read ≡ None
+
+-- what a function returned, seen by view, is what reading gives, unless memory ran out
+abbrev pub Fails : {Y : Type 0} → ReadError → Option Y → Type 0
+Fails errors.NoMemory read = Unit {0}
+Fails errors.Malformed read = read ≡ None
+
+abbrev pub Gives : {X Y : Type 0} → (X → Y) → Result X ReadError → Option Y → Type 0
+Gives view (Ok x) read = read ≡ Some (view x)
+Gives view (Err e) read = Fails e read
+
+infixl 10 ◌>>=◌
+abbrev pub ◌>>=◌ : {A B : Type 0} → Option A → (A → Option B) → Option B
+o >>= f = option_and_then f o
+
+abbrev pub Read : Type 0 → Type 0
+Read A = List ℕ → Option (A × List ℕ)
+
+unfoldable pub taken : ℕ → Read (List ℕ)
+taken n bytes = if nat_lt (length bytes) n then None else Some (take n bytes, drop n bytes)
+
+unfoldable pub byte_at : Read ℕ
+byte_at [] = None
+byte_at (b ∷ bytes) = Some (b, bytes)
+
+unfoldable pub number_at : Width → Read ℕ
+number_at w bytes = do
+  n ← taken (byte_len w) bytes
+  Some (from_be_bytes w n.0, n.1)
+
+-- a value that passes a test
+abbrev pub passing : {A : Type 0} → (A → Bool) → Read A → Read A
+passing {A} test read bytes = do
+  x ← read bytes
+  if test x.0 then Some x else None
+
+abbrev pub id_at : Read ℕ
+id_at = passing (λ n. nat_lt n (2 ^ 62)) (number_at w64)
+
+abbrev pub time_at : Read ℕ
+time_at = passing (λ n. nat_lt n end_of_times) (number_at w64)
+
+abbrev pub bit_length_at : Read ℕ
+bit_length_at = passing (λ n. nat_le 1 n && nat_le n 32767) (number_at w16)
+
+unfoldable pub text_at : Read (List ℕ)
+text_at bytes = do
+  n ← number_at w16 bytes
+  taken n.0 n.1
+
+abbrev pub short_text_at : Read (List ℕ)
+short_text_at = passing (λ t. nat_le (length t) 255 && is_utf8 t) text_at
+
+abbrev pub name_at : Read (List ℕ)
+name_at = passing is_name text_at
+
+abbrev pub kind_of_number : ℕ → Option SecretKind
+kind_of_number n =
+    if n == 0 then Some Symmetric else
+    if n == 1 then Some Public else
+    if n == 2 then Some Private else
+    if n == 3 then Some Passphrase else
+    if n == 4 then Some Certificate else
+    if n == 5 then Some Opaque else None
+
+unfoldable pub kind_at : Read SecretKind
+kind_at bytes = do
+  n ← byte_at bytes
+  kind ← kind_of_number n.0
+  Some (kind, n.1)
+
+-- whether a value follows
+unfoldable pub mark_at : Read Bool
+mark_at bytes = do
+  n ← byte_at bytes
+  if n.0 == 0 then Some (false, n.1) else if n.0 == 1 then Some (true, n.1) else None
+
+unfoldable pub option_at : {A : Type 0} → Read A → Read (Option A)
+option_at {A} read bytes = do
+  mark ← mark_at bytes
+  if mark.0 then (read mark.1 >>= λ x. Some (Some x.0, x.1)) else Some (None, mark.1)
+
+-- one value, and another behind it
+abbrev pub both : {A B : Type 0} → Read A → Read B → Read (A × B)
+both {A} {B} first second bytes = do
+  a ← first bytes
+  b ← second a.1
+  Some ((a.0, b.0), b.1)
+
+-- so many values, one behind the other
+unfoldable pub many : {A : Type 0} → Read A → ℕ → Read (List A)
+many {A} read zero bytes = Some ([], bytes)
+many {A} read (suc n) bytes = do
+  first ← read bytes
+  others ← many read n first.1
+  Some (first.0 ∷ others.0, others.1)
+
+-- a value made of another
+abbrev pub made_of : {A B : Type 0} → (A → B) → Read A → Read B
+made_of {A} {B} make read bytes = do
+  x ← read bytes
+  Some (make x.0, x.1)

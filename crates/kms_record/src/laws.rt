@@ -1,0 +1,61 @@
+//! Laws of the spelling, and of what changes do, as functions that do nothing.
+ghost use Rattle.std.specs.Prelude.{◌≡◌, ◌≢◌, ◌+◌, ◌*◌, ◌^◌, ◌<◌, ◌≤◌, ℕ, List, [], ◌++◌, length, sum_by, Option, Some, None, option_and_then};
+ghost use Rattle.std.specs.List.{AllByRecursion};
+ghost use Rattle.kms_world.specs.declared.secret.SecretRow.{SecretRow};
+ghost use Rattle.kms_record.specs.declared.change.Change.{Change};
+ghost use Rattle.kms_record.specs.declared.secret_put.SecretPut.{SecretPut};
+ghost use Rattle.kms_record.specs.SecretPut.{put_of};
+ghost use Rattle.kms_record.specs.Kept.{Kept, HasGivenIds, id_of_count, with_secret, after_change, after_step, after_record};
+ghost use Rattle.kms_record.specs.Grammar.{IsStep, IsStepInRange, IsRecord, IsSnapshot, step_bytes, record_bytes};
+
+/// No spelling of a step begins another's: where two steps are spelled at the front of the same bytes, they are one.
+pub fn no_step_begins_another()
+    ensures { (a b : List Change) (x y : List ℕ) → IsStep a → IsStep b → step_bytes a ++ x ≡ step_bytes b ++ y → (a ≡ b) × (x ≡ y) }
+{}
+
+/// A record has one reading.
+pub fn record_has_one_reading()
+    ensures { (bytes : List ℕ) (a b : List (List Change)) → IsRecord bytes a → IsRecord bytes b → a ≡ b }
+{}
+
+/// A snapshot has one reading.
+pub fn snapshot_has_one_reading()
+    ensures { (bytes : List ℕ) (a b : List Change) → IsSnapshot bytes a → IsSnapshot bytes b → a ≡ b }
+{}
+
+/// A step of n changes is spelled with at most 2 + 944 n bytes.
+pub fn step_is_short()
+    ensures { (step : List Change) → IsStepInRange step → length (step_bytes step) ≤ 2 + 944 * length step }
+{}
+
+/// How many bytes a record has.
+pub fn record_is_as_long_as_its_steps()
+    ensures { (steps : List (List Change)) → length (record_bytes steps) ≡ 4 + sum_by (λ step. length (step_bytes step)) steps }
+{}
+
+/// A record of steps of fewer than 65,536 bytes each has at most 4 + 65,536 n bytes for n steps.
+pub fn record_of_short_steps_is_short()
+    ensures { (steps : List (List Change)) → AllByRecursion (λ step. length (step_bytes step) < 2 ^ 16) steps → length (record_bytes steps) ≤ 4 + 2 ^ 16 * length steps }
+{}
+
+/// The change that puts a new secret, under the next id and with nothing in it but attributes, adds its row.
+pub fn a_new_secret_is_kept()
+    ensures { (kept : Kept) (row : SecretRow) → kept.state.ids < 2 ^ 62 → row.id ≡ id_of_count kept kept.state.ids → row.payload ≡ None → row.metadata ≡ []
+        → after_change (Change.SecretPut (put_of kept.state.ids row)) kept ≡ Some (with_secret kept row) }
+{}
+
+/// The steps of two records apply one behind the other.
+pub fn records_apply_in_order()
+    ensures { (a b : List (List Change)) (kept : Kept) → after_record (a ++ b) kept ≡ option_and_then (after_record b) (after_record a kept) }
+{}
+
+/// Where each secret has an id that was given, it has one behind every record that applies.
+pub fn ids_are_given()
+    ensures { (steps : List (List Change)) (kept after : Kept) → HasGivenIds kept → after_record steps kept ≡ Some after → HasGivenIds after }
+{}
+
+/// There a secret that is put is new: no secret has its id.
+pub fn a_secret_that_is_put_is_new()
+    ensures { (put : SecretPut) (kept after : Kept) → HasGivenIds kept → after_change (Change.SecretPut put) kept ≡ Some after
+        → AllByRecursion (λ row. row.id ≢ id_of_count kept put.id) kept.state.secrets }
+{}

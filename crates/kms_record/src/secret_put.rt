@@ -1,0 +1,142 @@
+// A secret is put.
+ghost use Rattle.std.specs.Prelude.{◌≡◌, ◌<◌, ◌^◌, ◌++◌, IfOk, OnOk};
+ghost use Rattle.kms_record.specs.Reading.{Gives};
+ghost use Rattle.kms_record.specs.SecretPutReading.{secret_put_at};
+
+use crate::cursor::Cursor;
+use crate::fields;
+use crate::read_error::ReadError;
+use kms_world::{Bytes, Name, NoMemory, Pairs, SecretKind, SecretRow, Text, id_of};
+use std::alloc::Global;
+
+/// A secret comes, without payload and metadata. Times are whole seconds since 1970, below the year 10000; texts have
+/// at most 255 bytes; a bit length is 1 to 32,767.
+#[derive(Drop, Debug)]
+pub struct SecretPut {
+    /// the count of its id under the store's tag, below 2^62
+    pub id: u64,
+    pub project: Name,
+    /// the user who made it
+    pub creator: Name,
+    pub created: u64,
+    pub updated: u64,
+    pub name: Option<Text>,
+    pub algorithm: Option<Text>,
+    pub bit_length: Option<u16>,
+    pub mode: Option<Text>,
+    pub kind: SecretKind,
+    /// from this time on the secret isn't there any more
+    pub expiration: Option<u64>,
+}
+
+/// Reads the fields.
+#[tactic(auto, unfolding(crate::specs::SecretPutReading::secret_put_at))]
+pub fn read_secret_put(alloc: Global, cursor: &mut Cursor<'_>) -> Result<SecretPut, ReadError>
+    ensures { Gives (λ x. (x, cursor.new)) result (secret_put_at cursor.old) }
+{
+    Ok(SecretPut {
+        id: fields::id(cursor)?,
+        project: fields::name(cursor)?,
+        creator: fields::name(cursor)?,
+        created: fields::time(cursor)?,
+        updated: fields::time(cursor)?,
+        name: fields::optional_text(alloc, cursor)?,
+        algorithm: fields::optional_text(alloc, cursor)?,
+        bit_length: fields::optional_bit_length(cursor)?,
+        mode: fields::optional_text(alloc, cursor)?,
+        kind: fields::kind(cursor)?,
+        expiration: fields::optional_time(cursor)?,
+    })
+}
+
+impl SecretPut {
+    ghost use Rattle.std.specs.Prelude.{◌≡◌, ◌<◌, ◌^◌, ◌++◌, ◌↔◌, IsTrue, IfOk, OnOk};
+    ghost use Rattle.kms_record.specs.SecretPut.{secret_put_bytes, IsInRange, IsTextual, row_of, put_of};
+
+    /// What puts this row's attributes under the id of this count.
+    pub fn of(row: &SecretRow, count: u64) -> Result<SecretPut, NoMemory>
+        ensures { IfOk result (λ put. put ≡ put_of count row.now) }
+    {
+        Ok(SecretPut {
+            id: count,
+            project: row.project,
+            creator: row.creator,
+            created: row.created,
+            updated: row.updated,
+            name: text_copied(&row.name)?,
+            algorithm: text_copied(&row.algorithm)?,
+            bit_length: row.bit_length,
+            mode: text_copied(&row.mode)?,
+            kind: row.kind,
+            expiration: row.expiration,
+        })
+    }
+
+    /// The row that it puts under the store's tag.
+    pub fn into_row(self, alloc: Global, tag: u64) -> SecretRow
+        requires tag { tag < 2 ^ 60 }
+        requires id { self.id < 2 ^ 62 }
+        ensures { result ≡ row_of tag self }
+    {
+        SecretRow {
+            id: id_of(tag, self.id),
+            project: self.project,
+            creator: self.creator,
+            created: self.created,
+            updated: self.updated,
+            name: self.name,
+            algorithm: self.algorithm,
+            bit_length: self.bit_length,
+            mode: self.mode,
+            kind: self.kind,
+            expiration: self.expiration,
+            payload: None,
+            metadata: Pairs::new(alloc),
+        }
+    }
+
+    /// Its numbers and lengths are in their ranges.
+    pub fn is_in_range(&self) -> bool
+        ensures { IsTrue result ↔ IsInRange self.now }
+    {
+        self.id < 1 << 62
+            && self.project.as_bytes().len() <= 64
+            && self.creator.as_bytes().len() <= 64
+            && fields::is_time(self.created)
+            && fields::is_time(self.updated)
+            && fields::is_short(&self.name)
+            && fields::is_short(&self.algorithm)
+            && fields::is_bit_length(self.bit_length)
+            && fields::is_short(&self.mode)
+            && fields::is_expiration(self.expiration)
+    }
+
+    /// Writes the fields behind the bytes.
+    #[tactic(auto, unfolding(crate::specs::SecretPut::secret_put_bytes))]
+    pub(crate) fn write(&self, out: &mut Bytes) -> Result<(), NoMemory>
+        requires { IsInRange self.now }
+        ensures spelled { OnOk result (out.new ≡ out.old ++ secret_put_bytes self.now) }
+        ensures textual { OnOk result (IsTextual self.now) }
+    {
+        fields::put_number(out, self.id)?;
+        fields::put_text(out, self.project.as_bytes())?;
+        fields::put_text(out, self.creator.as_bytes())?;
+        fields::put_number(out, self.created)?;
+        fields::put_number(out, self.updated)?;
+        fields::put_optional_text(out, &self.name)?;
+        fields::put_optional_text(out, &self.algorithm)?;
+        fields::put_optional_bit_length(out, self.bit_length)?;
+        fields::put_optional_text(out, &self.mode)?;
+        fields::put_kind(out, self.kind)?;
+        fields::put_optional_time(out, self.expiration)
+    }
+}
+
+fn text_copied(text: &Option<Text>) -> Result<Option<Text>, NoMemory>
+    ensures { IfOk result (λ copy. copy ≡ text.now) }
+{
+    match text {
+        None => Ok(None),
+        Some(text) => Ok(Some(text.clone()?)),
+    }
+}
