@@ -3,17 +3,12 @@
 use Rattle.std.specs.Prelude.{ℕ, List, Option, Some, None, option_map, codes}
 use Rattle.serde_json.specs.Data.{Data, string, object, Members, member, no_members}
 use Rattle.kms_world.specs.declared.payload.Media.{Media}
-use Rattle.kms_world.specs.declared.payload.Media.TheVariants.{TextPlain, OctetStream}
+use Rattle.kms_world.specs.Media.{word_of as media_word}
 use Rattle.kms_world.specs.declared.secret.SecretRow.{SecretRow}
 use Rattle.kms_world.specs.SecretKind.{word_of}
 use Rattle.kms_text.specs.declared.link.Kind.TheVariants as kind
 use Rattle.kms_text.specs.Link.{link_of}
 use Rattle.kms_json.specs.Values.{text_or_null, number_or_null, time_data, time_or_null}
-
--- the name of a payload's type (RFC 2046 sections 4.1.3 and 4.5.1)
-abbrev pub media_word : Media → List ℕ
-media_word TextPlain = codes "text/plain"
-media_word OctetStream = codes "application/octet-stream"
 
 -- the type of a secret's payload, where it has one
 abbrev pub media_of : SecretRow → Option Media

@@ -6,7 +6,7 @@ ghost use Rattle.serde_json.specs.Written.{compact_text};
 ghost use Rattle.kms_world.specs.Times.{IsTimely};
 ghost use Rattle.kms_text.specs.declared.link.Kind.TheVariants as kind;
 ghost use Rattle.kms_text.specs.Link.{link_of};
-ghost use Rattle.kms_json.specs.Secret.{media_word, media_of, content_types_data, secret_data};
+ghost use Rattle.kms_json.specs.Secret.{media_of, content_types_data, secret_data};
 ghost use Rattle.kms_json.specs.SecretParts.{parts_data};
 
 use crate::values::{body_of, number_value, optional_time_value, text_value, time_value};
@@ -31,15 +31,6 @@ struct Parts {
     secret_ref: Value,
     secret_type: Value,
     updated: Value,
-}
-
-const fn media_word(media: Media) -> &'static str
-    ensures { result.now ≡ media_word media }
-{
-    match media {
-        Media::TextPlain => "text/plain",
-        Media::OctetStream => "application/octet-stream",
-    }
 }
 
 fn secret_ref(alloc: Global, row: &SecretRow, endpoint: &str) -> Result<Value, NoMemory>
@@ -90,7 +81,7 @@ fn without_payload(alloc: Global, parts: Parts) -> Result<Value, AllocError>
 fn content_types(alloc: Global, media: Media) -> Result<Value, AllocError>
     ensures { IfOk result (λ value. view value ≡ content_types_data media) }
 {
-    json!(in alloc; {"default": media_word(media)})
+    json!(in alloc; {"default": media.word()})
 }
 
 fn with_payload(alloc: Global, parts: Parts, media: Media) -> Result<Value, AllocError>
