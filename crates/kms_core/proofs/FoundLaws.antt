@@ -1,7 +1,6 @@
 -- What holds of each row holds of the one that is found.
-use Rattle.std.proofs.Common.{◌≡◌, ℕ, suc, ◌<◌, List, [], ◌∷◌, length, Bool, true, false, Option, Some, None, cond, refl, sym, ap, subst, arith}
+use Rattle.std.proofs.Common.{◌≡◌, suc, List, [], ◌∷◌, Bool, true, false, Option, Some, cond, sym, subst, arith}
 use Rattle.std.specs.Prelude.{find, All}
-use Rattle.std.specs.List.{slice_index_or}
 use Rattle.kms_world.specs.Secret.{attributes_of}
 use Rattle.kms_world.specs.Times.{IsTimely}
 use Rattle.kms_world.specs.declared.secret.SecretRow.{SecretRow}

@@ -1,5 +1,5 @@
 -- What the engine keeps stands for a state.
-use Rattle.std.specs.Prelude.{ℕ, ◌<◌, ◌≤◌, ◌^◌, [], All, IsTrue, vec_len, vec_capacity}
+use Rattle.std.specs.Prelude.{◌<◌, ◌≤◌, ◌^◌, [], All, IsTrue, vec_len, vec_capacity}
 use Rattle.kms_world.specs.Times.{IsTimely}
 use Rattle.kms_core.specs.Steps.{Held}
 use Rattle.kms_core.specs.declared.engine.Engine.TheInside.{Inside}
@@ -17,6 +17,7 @@ held e = record {
     quotas = [];
   };
   room = e.room;
+  store = e.store;
 }
 
 pub record IsSound (e : Inside) : Type 0 where

@@ -1,17 +1,27 @@
 // The engine and its calls.
-ghost use Rattle.std.specs.Prelude.{◌≡◌, ◌<◌, ◌^◌, IfOk, is_some, OnErr, IsTrue};
-ghost use Rattle.kms_world.specs.State.{empty_state};
+ghost use Rattle.std.specs.Prelude.{◌≡◌, ◌<◌, ◌^◌, IfOk, Some, None, Ok, is_some, IfSome, option_map, OnOk, OnErr, IsTrue};
+ghost use Rattle.kms_world.specs.State.{State, empty_state};
 ghost use Rattle.kms_world.specs.Times.{HasTimes, IsTimely};
 ghost use Rattle.kms_model.specs.Ask.{answer_to, state_after, stores};
-ghost use Rattle.kms_core.specs.Steps.{after_step, Prepares};
+ghost use Rattle.kms_host.specs.Faults.{HasCause};
+ghost use Rattle.kms_host.specs.History.{Tells, WhereTold, Stops};
+ghost use Rattle.kms_host.specs.declared.call.Count.TheVariants as counts;
+ghost use Rattle.kms_journal.specs.Position.{IsPlaced};
+ghost use Rattle.kms_journal.specs.Standing.{Standing};
+ghost use Rattle.kms_core.specs.Steps.{after_step, Prepares, IsSpelledBehind};
+ghost use Rattle.kms_core.specs.Settling.{IsOpened, Settles};
+ghost use Rattle.kms_core.specs.Waiting.{Keeping, with_waiting};
 
+use crate::opened::Opened;
 use crate::{AskFault, Asked, Step};
 use kms_host::Host;
+use kms_journal::StoreFault;
 use kms_world::{Answer, Caller, NoMemory, Op, SecretRow};
 use std::alloc::Global;
 use std::marker::Model;
 
-/// The key manager's state in memory. Contracts see the state, and whether there is room for a step.
+/// The key manager's state in memory, over a store or without one. Contracts see the state, whether there is room for a
+/// step, and of the store where its journal stands and the steps that wait to be settled.
 #[derive(Drop)]
 pub struct Engine {
     pub(crate) alloc: Global,
@@ -19,6 +29,7 @@ pub struct Engine {
     pub(crate) ids: u64,
     pub(crate) secrets: Vec<SecretRow>,
     pub(crate) room: bool,
+    pub(crate) store: Option<Opened>,
 }
 
 impl Model for Engine {
@@ -34,7 +45,7 @@ impl Model for Engine {
 }
 
 impl Engine {
-    /// An engine with nothing stored, under a tag below 2^60.
+    /// An engine with nothing stored, under a tag below 2^60, and without a store.
     pub fn empty(alloc: Global, tag: u64) -> Result<Engine, NoMemory>
         requires { tag < 2 ^ 60 }
         ensures { IfOk result (λ engine. engine.state ≡ empty_state tag) }
@@ -45,6 +56,7 @@ impl Engine {
             ids: 0,
             secrets: Vec::new(alloc),
             room: false,
+            store: None,
         })
     }
 
@@ -63,7 +75,9 @@ impl Engine {
         ensures step { IfOk result (λ a. Prepares a.step self.old.state (state_after self.old.state caller.now op moment) self.new.room) }
         ensures stores { IfOk result (λ a. is_some a.step ≡ stores self.old.state caller.now op moment) }
         ensures times { IfOk result (λ a. HasTimes a.answer) }
+        ensures spelled { IfOk result (λ a. IfSome a.step (IsSpelledBehind self.old)) }
         ensures same { self.new.state ≡ self.old.state }
+        ensures store { self.new.store ≡ self.old.store }
         ensures host { host.new ≡ host.old }
     {
         match op {
@@ -76,16 +90,43 @@ impl Engine {
         }
     }
 
-    /// Takes over the step that the last call of `ask` prepared. It can't fail.
+    /// Takes over the step that the last call of `ask` prepared. It can't fail. Over a store the step waits to be settled.
     pub fn accept(&mut self, step: Step)
         requires room { IsTrue self.old.room }
         requires ids { self.old.state.ids < 2 ^ 62 }
         requires times { IsTimely step.secret }
-        ensures { self.new.state ≡ after_step self.old.state step }
+        ensures state { self.new.state ≡ after_step self.old.state step }
+        ensures store { self.new.store ≡ option_map (with_waiting step.waiting) self.old.store }
     {
+        let Step { secret, waiting } = step;
         self.ids += 1;
         self.room = false;
-        let pushed = self.secrets.push(step.secret);
+        if let Some(store) = &mut self.store {
+            store.waiting = waiting;
+        }
+        let pushed = self.secrets.push(secret);
         pushed.unwrap();
+    }
+
+    /// Writes the accepted steps that wait to the store, as one record, with at most two syncs. It takes no memory. With
+    /// no step that waits it makes no call on the host. From an Ok on they are on the disk. After a fault the store has
+    /// all of them or none: start another engine.
+    pub fn settle<H: Host>(&mut self, host: &mut H) -> Result<(), StoreFault>
+        requires placed { IfSome self.old.store (λ store. IsTrue (is_some store.waiting)
+            → WhereTold (H.history host.old) (λ h. (s : Standing) × IsPlaced store.journal h s)) }
+        ensures told { Tells (H.history host.old) (H.history host.new) (λ was now. (store : Keeping) (settled : State)
+            → self.old.store ≡ Some store → IsOpened store was settled self.old.state
+            → (new : Keeping) × (self.new.store ≡ Some new) × Settles new result settled self.old.state was now) }
+        ensures same { self.new.state ≡ self.old.state }
+        ensures ok { OnOk result (IfSome self.new.store (λ store. store.waiting ≡ None)) }
+        ensures err { OnErr result (self.new ≡ self.old) }
+        ensures idle { IfSome self.old.store (λ store. store.waiting ≡ None) → (result ≡ Ok tt) × (host.new ≡ host.old) }
+        ensures cause { HasCause counts.Store (H.faults host.old) (H.faults host.new) result }
+        ensures stops { Stops (H.wanted host.old) (H.wanted host.new) (H.history host.old) (H.history host.new) }
+    {
+        match &mut self.store {
+            Some(store) => store.settle(host),
+            None => Ok(()),
+        }
     }
 }

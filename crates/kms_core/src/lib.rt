@@ -2,8 +2,17 @@
 #![tactic(auto)]
 
 mod engine;
+pub mod laws;
+mod load;
+mod opened;
+mod rows;
 mod secrets;
+mod spelling;
+mod start;
+mod start_fault;
 mod step;
+mod waiting;
 
 pub use engine::Engine;
+pub use start_fault::StartFault;
 pub use step::{AskFault, Asked, Step};

@@ -1,12 +1,15 @@
 // Operations on secrets.
-ghost use Rattle.std.specs.Prelude.{◌≡◌, ◌<◌, IfOk, is_some, None, option_copied, find};
+ghost use Rattle.std.specs.Prelude.{◌≡◌, ◌<◌, IfOk, is_some, IfSome, None, option_copied, find};
 ghost use Rattle.kms_model.specs.AskSecret.{is_secret, is_live, has_id, posted_answer, posted_state, secret_at, found_answer};
-ghost use Rattle.kms_core.specs.Steps.{Prepares};
+ghost use Rattle.kms_core.specs.Steps.{Prepares, IsSpelledBehind};
+ghost use Rattle.kms_core.specs.Spelling.{IsPutBehind};
 ghost use Rattle.kms_world.specs.Times.{HasTimes};
 
+use crate::spelling::spell;
+use crate::waiting::Waiting;
 use crate::{AskFault, Asked, Engine, Step};
 use kms_world::{
-    Answer, Caller, Id, Link, Pairs, Refusal, SecretBody, SecretKind, SecretRow, id_of,
+    Answer, Caller, Id, Link, NoMemory, Pairs, Refusal, SecretBody, SecretKind, SecretRow, id_of,
 };
 
 fn is_live(moment: u64, expiration: Option<u64>) -> bool
@@ -43,6 +46,16 @@ fn refused(refusal: Refusal) -> Asked
 }
 
 impl Engine {
+    // Where the engine has a store: the steps that wait there, and the one that adds this secret.
+    fn spelled(&self, secret: &SecretRow) -> Result<Option<Waiting>, NoMemory>
+        ensures { IfOk result (λ waiting. IsPutBehind self.now secret.now waiting) }
+    {
+        match &self.store {
+            Some(store) => Ok(Some(spell(self.alloc, &store.waiting, self.ids, secret)?)),
+            None => Ok(None),
+        }
+    }
+
     pub(crate) fn post_secret(
         &mut self,
         caller: &Caller,
@@ -54,7 +67,9 @@ impl Engine {
         ensures step { IfOk result (λ a. Prepares a.step self.old.state (posted_state self.old.state caller.now body moment) self.new.room) }
         ensures stores { IfOk result (λ a. is_some a.step ≡ has_id self.old.state) }
         ensures times { IfOk result (λ a. HasTimes a.answer) }
+        ensures spelled { IfOk result (λ a. IfSome a.step (IsSpelledBehind self.old)) }
         ensures same { self.new.state ≡ self.old.state }
+        ensures store { self.new.store ≡ self.old.store }
     {
         if self.ids >= 1 << 62 {
             return Ok(refused(Refusal::IdsSpent));
@@ -77,13 +92,14 @@ impl Engine {
             payload: None,
             metadata: Pairs::new(self.alloc),
         };
+        let waiting = self.spelled(&secret)?;
         Ok(Asked {
             answer: Answer::Link {
                 status: 201,
                 link: Link::Secret,
                 id,
             },
-            step: Some(Step { secret }),
+            step: Some(Step { secret, waiting }),
         })
     }
 

@@ -1,4 +1,5 @@
 // Prepared changes.
+use crate::waiting::Waiting;
 use kms_world::{Answer, NoMemory, SecretRow};
 use std::alloc::{AllocError, AllocFailed};
 
@@ -7,6 +8,8 @@ use std::alloc::{AllocError, AllocFailed};
 pub struct Step {
     /// the secret that it adds
     pub secret: SecretRow,
+    // where the engine has a store, the steps that wait there and this one, spelled
+    pub(crate) waiting: Option<Waiting>,
 }
 
 /// An answer, and the step that has to be taken over before it is given.
@@ -19,7 +22,8 @@ pub struct Asked {
 /// Why an operation has no answer. Nothing has changed.
 #[derive(Clone, Copy, Debug, PartialEq, Eq)]
 pub enum AskFault {
-    /// out of memory
+    /// Out of memory. So is an engine over a store at which 1,152 accepted steps wait to be settled, and one that is
+    /// given what no record has room for: a name of more than 255 bytes.
     NoMemory,
 }
 

@@ -1,0 +1,126 @@
+-- What is started over a store, and what is refused.
+use Rattle.std.proofs.Common.{◌≡◌, inl, inr, ℕ, Bool, false, List, [], ◌∷◌, length, get_or, Some, None, refl, sym, ap, subst, ◌∙◌, arith}
+use Rattle.std.specs.Prelude.{Ok, Err}
+use Rattle.kms_host.specs.History.{History}
+use Rattle.kms_host.specs.Disk.{Disk, MayLeave}
+use Rattle.kms_host.specs.Moment.{Throughout}
+use Rattle.kms_host.proofs.Moments.{joined, throughout_weaker, at_last}
+use Rattle.kms_record.specs.Kept.{Kept}
+use Rattle.kms_journal.specs.Answers.{chain_of, Gathers}
+use Rattle.kms_journal.specs.Device.{IsUntouched}
+use Rattle.kms_journal.specs.Position.{Position, IsPlaced}
+use Rattle.kms_journal.specs.Recovery.{KeepsStanding, Opens}
+use Rattle.kms_journal.specs.Standing.{Standing, standing_of}
+use Rattle.kms_journal.specs.declared.chain.Chain.{Chain}
+use Rattle.kms_journal.specs.declared.fault.JournalFault.{JournalFault}
+use Rattle.kms_journal.specs.declared.fault.JournalFault.TheVariants as journal
+use Rattle.kms_journal.specs.declared.fault.Place.{Place}
+use Rattle.kms_journal.specs.declared.fault.Place.TheVariants.{Body}
+use Rattle.kms_journal.proofs.ReadingLaws.{same_reads, same_files, quiet_after, attached_after}
+use Rattle.kms_core.specs.Stands.{LeadTo, BreakAt, IsDamagedAt, KeptOf}
+use Rattle.kms_core.specs.Loading.{IsBrokenAt, IsFirstDamage, Loads, Refuses}
+use Rattle.kms_core.specs.Starting.{IsRefusal, OpensJournal, Starts}
+use Rattle.kms_core.specs.Steps.{Held}
+use Rattle.kms_core.specs.declared.start_fault.StartFault.{StartFault}
+use Rattle.kms_core.specs.declared.start_fault.StartFault.TheVariants.{NoStore, Damaged, StoreFault, NoMemory}
+
+-- records that apply, and stop where they aren't whole
+stops_there : (items : List (ℕ × List ℕ)) (stop at : ℕ) (is_whole : Bool) (kept after : Kept) → is_whole ≡ false → at ≡ stop → LeadTo items kept after → BreakAt items stop is_whole kept at
+stops_there [] stop at is_whole kept after broken is leads = (broken, is)
+stops_there (item ∷ items) stop at is_whole kept after broken is leads = inr (leads.0, leads.1, stops_there items stop at is_whole leads.0 after broken is leads.2)
+
+broken_store : (s : Standing) (at : ℕ) → IsBrokenAt (chain_of s) at → IsDamagedAt s at
+broken_store s at (inl not) = inl not
+broken_store s at (inr broken) = inr (broken.0, broken.1 s.stop s.is_whole)
+
+first_damage : (s : Standing) (at : ℕ) → s.is_whole ≡ false → IsFirstDamage (chain_of s) s.stop at → IsDamagedAt s at
+first_damage s at broken (inl before) = broken_store s at before
+first_damage s at broken (inr last) = inr (last.0, stops_there s.records s.stop at s.is_whole _ last.2.0 broken last.1 last.2.1)
+
+abbrev stop_of : Place → ℕ
+stop_of (Body file at) = at
+
+pub refused : (fault : JournalFault) (e : StartFault) (was now : History) → Refuses fault e → Opens (Err fault) was now → OpensJournal (Err e) was now
+refused fault e was now r o = record { throughout = o.throughout; answer = by_fault fault r o }
+  where
+    by_fault : (fault : JournalFault) → Refuses fault e → Opens (Err fault) was now → IsRefusal e was
+    by_fault journal.NoStore r o = subst (λ (x : StartFault). IsRefusal x was) (sym r) o.answer.0
+    by_fault journal.StoreFault r o = subst (λ (x : StartFault). IsRefusal x was) (sym r) tt
+    by_fault journal.NoMemory r o = subst (λ (x : StartFault). IsRefusal x was) (sym r) tt
+    by_fault (journal.Damaged (Body file stop) chain) (inl none) o = subst (λ (x : StartFault). IsRefusal x was) (sym none) tt
+    by_fault (journal.Damaged (Body file stop) chain) (inr r) o =
+        let a = o.answer in
+        let s = a.0 in
+        let here : stop ≡ s.stop = ap stop_of a.3 in
+        let first : IsFirstDamage (chain_of s) s.stop r.0 = subst (λ (n : ℕ). IsFirstDamage (chain_of s) n r.0) here (subst (λ (c : Chain). IsFirstDamage c stop r.0) a.4 r.2) in
+        subst (λ (x : StartFault). IsRefusal x was) (sym r.1)
+        (s, r.0, a.1, ap (λ (c : Chain). Body c.file r.0) a.4, first_damage s r.0 a.2 first)
+
+placed_after : (p : Position) (s : Standing) (mid now : History) → Throughout (IsUntouched mid) mid now → IsPlaced p mid s → IsPlaced p now s
+placed_after p s mid now t placed =
+    let same = same_reads mid now t s.file in
+    record {
+      attached = attached_after mid now t placed.attached;
+      current = ap standing_of (same_files mid now (at_last (IsUntouched mid) mid now t)) ∙ placed.current;
+      whole = placed.whole;
+      here = placed.here;
+      last = ap length same ∙ placed.last;
+      clear = ap (λ (l : List ℕ). get_or l s.stop 0) same ∙ placed.clear;
+    }
+
+still_keeps : (was mid : History) → KeepsStanding was mid → (h : History) → IsUntouched mid h → KeepsStanding was h
+still_keeps was mid k h u = record {
+  images = λ quiet image is. k.images quiet image (record {
+    file_0 = subst (λ (d : Disk). MayLeave d image.0) (u.disk 0) is.file_0;
+    file_1 = subst (λ (d : Disk). MayLeave d image.1) (u.disk 1) is.file_1;
+  });
+  other = λ s stands f elsewhere. u.disk f ∙ k.other s stands f elsewhere;
+  none = λ no_store.
+      let before = k.none no_store in
+      record { disk = λ f. u.disk f ∙ before.disk f; others = u.others ∙ before.others; syncs = u.syncs ∙ before.syncs };
+  others = u.others ∙ k.others;
+  syncs = omega (arith, u.syncs, k.syncs);
+}
+
+module _ (p : Position) (was mid now : History) (o : OpensJournal (Ok p) was mid) where
+  during : Throughout (IsUntouched mid) mid now → Throughout (KeepsStanding was) was now
+  during t =
+      joined (KeepsStanding was) was mid now o.throughout
+      (throughout_weaker (IsUntouched mid) (KeepsStanding was) mid now (still_keeps was mid (at_last (KeepsStanding was) was mid o.throughout)) t)
+
+  pub unread : (fault : JournalFault) (e : StartFault) → Refuses fault e → ((s : Standing) → IsPlaced p mid s → Gathers s (Err fault) mid now) → Starts (Err e) was now
+  unread fault e r gathers = let g = gathers o.answer.0 o.answer.2 in record { throughout = during g.throughout; answer = by_fault fault r g }
+    where
+      by_fault : (fault : JournalFault) → Refuses fault e → Gathers o.answer.0 (Err fault) mid now → IsRefusal e was
+      by_fault journal.NoStore r g = absurd g.answer
+      by_fault journal.StoreFault r g = subst (λ (x : StartFault). IsRefusal x was) (sym r) tt
+      by_fault journal.NoMemory r g = subst (λ (x : StartFault). IsRefusal x was) (sym r) tt
+      by_fault (journal.Damaged place chain) r g = absurd g.answer
+
+  module _ (chain : Chain) (gathers : (s : Standing) → IsPlaced p mid s → Gathers s (Ok chain) mid now) where
+    pub unloaded : (e : StartFault) → Loads chain (Err e) → Starts (Err e) was now
+    unloaded e l = let g = gathers o.answer.0 o.answer.2 in record { throughout = during g.throughout; answer = by_fault e l g }
+      where
+        by_fault : (e : StartFault) → Loads chain (Err e) → Gathers o.answer.0 (Ok chain) mid now → IsRefusal e was
+        by_fault NoStore l g = absurd l
+        by_fault StoreFault l g = absurd l
+        by_fault NoMemory l g = tt
+        by_fault (Damaged place) l g =
+            let s = o.answer.0 in
+            (s, l.0, o.answer.1, l.1 ∙ ap (λ (c : Chain). Body c.file l.0) g.answer, broken_store s l.0 (subst (λ (c : Chain). IsBrokenAt c l.0) g.answer l.2))
+
+    pub started_at : (kept : Kept) (engine : Held) → Loads chain (Ok kept) → engine ≡ record { state = kept.state; room = false; store = Some (record { journal = p; waiting = None }) } → Starts (Ok engine) was now
+    started_at kept engine l is =
+        let s = o.answer.0 in
+        let g = gathers s o.answer.2 in
+        let loads : Loads (chain_of s) (Ok kept) = subst (λ (c : Chain). Loads c (Ok kept)) g.answer l in
+        let keeps : KeptOf s kept = record { whole = o.answer.2.whole; begun = loads.0; records = loads.1 } in
+        let now_placed = placed_after p s mid now g.throughout o.answer.2 in
+        subst (λ (x : Held). Starts (Ok x) was now) (sym is) (record {
+          throughout = during g.throughout;
+          answer = (
+            record { standing = s; current = o.answer.1; kept = keeps },
+            (record { journal = p; waiting = None }, refl, refl, record { standing = s; placed = now_placed; kept = keeps; ahead = refl }),
+            λ quiet. quiet_after mid now (at_last (IsUntouched mid) mid now g.throughout) (o.answer.3 quiet),
+          );
+        })

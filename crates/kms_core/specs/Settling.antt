@@ -1,0 +1,32 @@
+-- What settling does to a store, at each moment.
+use Rattle.std.specs.Prelude.{◌≡◌, ◌⊎◌, ℕ, ◌+◌, ◌≤◌, List, Result, OnOk}
+use Rattle.kms_world.specs.State.{State}
+use Rattle.kms_host.specs.Disk.{IsImage}
+use Rattle.kms_host.specs.History.{History}
+use Rattle.kms_host.specs.Moment.{Throughout}
+use Rattle.kms_host.specs.Store.{others, syncs}
+use Rattle.kms_journal.specs.Device.{IsQuietStore}
+use Rattle.kms_journal.specs.Position.{IsPlaced}
+use Rattle.kms_journal.specs.Standing.{Standing}
+use Rattle.kms_core.specs.Stands.{KeptOf, Stands, kept_as}
+use Rattle.kms_core.specs.Waiting.{Keeping, IsAhead}
+
+-- The store stands for the state that was settled, and the steps that wait lead from it to this one.
+pub record IsOpened (store : Keeping) (h : History) (settled state : State) : Type 0 where
+  pub standing : Standing
+  pub placed : IsPlaced store.journal h standing
+  pub kept : KeptOf standing (kept_as settled)
+  pub ahead : IsAhead store.waiting settled state
+
+-- Each crash image stands for the state that was settled, or for the one with all steps that wait. Nothing was called but
+-- on files.
+pub record IsSettledOrAll (settled state : State) (was h : History) : Type 0 where
+  pub images : IsQuietStore was → (image : List ℕ × List ℕ) → IsImage h image → Stands image settled ⊎ Stands image state
+  pub others : others h ≡ others was
+  pub syncs : syncs h.calls ≤ syncs was.calls + 2
+
+-- From an Ok on it is the state with all steps.
+pub record Settles {T E : Type 0} (new : Keeping) (result : Result T E) (settled state : State) (was now : History) : Type 0 where
+  pub throughout : Throughout (IsSettledOrAll settled state was) was now
+  pub done : OnOk result (IsOpened new now state state)
+  pub quiet : OnOk result (IsQuietStore was → IsQuietStore now)

@@ -1,0 +1,45 @@
+-- What starting over a store answers, and does to it.
+use Rattle.std.specs.Prelude.{◌≡◌, ℕ, Some, None, Result, Ok, Err}
+use Rattle.kms_host.specs.Disk.{files}
+use Rattle.kms_host.specs.History.{History}
+use Rattle.kms_host.specs.Moment.{Throughout}
+use Rattle.kms_journal.specs.Device.{IsQuietStore}
+use Rattle.kms_journal.specs.Position.{Position, IsPlaced}
+use Rattle.kms_journal.specs.Recovery.{KeepsStanding}
+use Rattle.kms_journal.specs.Standing.{Standing, standing_of}
+use Rattle.kms_journal.specs.declared.fault.Place.TheVariants.{Body}
+use Rattle.kms_core.specs.Stands.{Stands, IsDamagedAt}
+use Rattle.kms_core.specs.Settling.{IsOpened}
+use Rattle.kms_core.specs.Steps.{Held}
+use Rattle.kms_core.specs.Waiting.{Keeping}
+use Rattle.kms_core.specs.declared.start_fault.StartFault.{StartFault}
+use Rattle.kms_core.specs.declared.start_fault.StartFault.TheVariants.{NoStore, Damaged, StoreFault, NoMemory}
+
+-- What a fault says of the files as they read at first: there is no store, or this is the first place at which what it
+-- keeps is damaged.
+abbrev pub IsRefusal : StartFault → History → Type 0
+IsRefusal NoStore was = standing_of (files was) ≡ None
+IsRefusal (Damaged place) was = (s : Standing) × (at : ℕ) × (standing_of (files was) ≡ Some s) × (place ≡ Body s.file at) × IsDamagedAt s at
+IsRefusal StoreFault was = Unit {0}
+IsRefusal NoMemory was = Unit {0}
+
+-- An engine has the state for which the files stood at first, with its journal at the store's end, and no step waits.
+abbrev pub IsStart : Result Held StartFault → History → History → Type 0
+IsStart (Ok engine) was now = Stands (files was) engine.state
+    × ((store : Keeping) × (engine.store ≡ Some store) × (store.waiting ≡ None) × IsOpened store now engine.state engine.state)
+    × (IsQuietStore was → IsQuietStore now)
+IsStart (Err fault) was now = IsRefusal fault was
+
+-- While it starts, each crash image stands for what the files did at first.
+pub record Starts (result : Result Held StartFault) (was now : History) : Type 0 where
+  pub throughout : Throughout (KeepsStanding was) was now
+  pub answer : IsStart result was now
+
+-- the same of a journal alone
+abbrev pub IsJournal : Result Position StartFault → History → History → Type 0
+IsJournal (Ok journal) was now = (s : Standing) × (standing_of (files was) ≡ Some s) × IsPlaced journal now s × (IsQuietStore was → IsQuietStore now)
+IsJournal (Err fault) was now = IsRefusal fault was
+
+pub record OpensJournal (result : Result Position StartFault) (was now : History) : Type 0 where
+  pub throughout : Throughout (KeepsStanding was) was now
+  pub answer : IsJournal result was now

@@ -1,0 +1,27 @@
+// Steps as they are spelled.
+ghost use Rattle.std.specs.Prelude.{◌≡◌, IfOk};
+ghost use Rattle.kms_core.specs.Spelling.{LeadsBehind};
+
+use crate::waiting::Waiting;
+use kms_record::{Change, SecretPut, Step};
+use kms_world::{NoMemory, SecretRow};
+use std::alloc::Global;
+
+/// The steps that wait, and behind them the one that puts a new secret under the id of this count. Where a record has no
+/// room for its attributes it is out of memory.
+pub(crate) fn spell(
+    alloc: Global,
+    before: &Option<Waiting>,
+    count: u64,
+    secret: &SecretRow,
+) -> Result<Waiting, NoMemory>
+    ensures { IfOk result (λ waiting. LeadsBehind before.now count secret.now waiting) }
+{
+    let put = SecretPut::of(secret, count)?;
+    if !put.is_in_range() {
+        return Err(NoMemory);
+    }
+    let mut step = Step::new(alloc);
+    step.push(Change::SecretPut(put))?;
+    Waiting::with(alloc, before, &step)
+}
