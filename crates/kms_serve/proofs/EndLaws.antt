@@ -3,7 +3,7 @@ use Rattle.std.proofs.Common.{◌≡◌, ℕ, List, [], ◌∷◌, ◌++◌, len
 use Rattle.kms_host.specs.Line.{taken, sent, at_end}
 use Rattle.kms_host.specs.Moment.{AtEach}
 use Rattle.kms_host.specs.declared.call.Call.{Call}
-use Rattle.kms_host.specs.declared.call.Call.TheVariants.{Took, Gave, Shut, Told}
+use Rattle.kms_host.specs.declared.call.Call.TheVariants.{Text, Attached, Took, Gave, Shut, OnFile, Told, Drew}
 use Rattle.kms_host.proofs.Moments.{at_moment}
 use Rattle.kms_world.specs.State.{State}
 use Rattle.kms_model.specs.declared.event.Mark.{Mark}
@@ -62,7 +62,11 @@ failed_goes endpoint first marks (Gave l piece None ∷ calls) each fails given 
     let long = ap length (given l ∙ next.next) in
     absurd (omega (arith, next.some, long, length-append (sent l calls) (piece ++ next.rest), length-append piece next.rest))
 failed_goes endpoint first marks (Shut l ∷ calls) each fails given = absurd fails
+failed_goes endpoint first marks (Text name room bytes ∷ calls) each fails given = absurd fails
+failed_goes endpoint first marks (Attached name done ∷ calls) each fails given = absurd fails
+failed_goes endpoint first marks (OnFile file c ∷ calls) each fails given = absurd fails
 failed_goes endpoint first marks (Told t ∷ calls) each fails given = absurd fails
+failed_goes endpoint first marks (Drew purpose bytes ∷ calls) each fails given = absurd fails
 
 failed_clean : (endpoint : List ℕ) (first : State) (marks : List Mark) (calls : List Call) → AtEach (Answered endpoint first marks) calls → EndsFailed 0 calls
     → at_end 0 calls ≡ false → AllGiven endpoint first marks calls → EndsClean calls → ⊥

@@ -6,7 +6,7 @@ use Rattle.std.proofs.lemmas.Result.{IfOk-from_err}
 use Rattle.kms_host.specs.History.{History, then_call}
 use Rattle.kms_host.specs.Line.{sent, failed_on, OnlyGives, IsOpen}
 use Rattle.kms_host.specs.declared.call.Call.{Call}
-use Rattle.kms_host.specs.declared.call.Call.TheVariants.{Took, Gave, Shut, Told}
+use Rattle.kms_host.specs.declared.call.Call.TheVariants.{Text, Attached, Took, Gave, Shut, OnFile, Told, Drew}
 use Rattle.kms_serve.specs.Ends.{EndsFailed}
 use Rattle.kms_serve.specs.Owed.{OnlyLeft, Gives}
 use Rattle.kms_serve.specs.Owing.{on_line}
@@ -55,7 +55,11 @@ only_gives line bytes [] h = tt
 only_gives line bytes (Took l room taken ∷ calls) h = absurd h
 only_gives line bytes (Gave l piece went ∷ calls) h = (h.0.of_line, only_gives line bytes calls h.1)
 only_gives line bytes (Shut l ∷ calls) h = absurd h
+only_gives line bytes (Text name room text ∷ calls) h = absurd h
+only_gives line bytes (Attached name done ∷ calls) h = absurd h
+only_gives line bytes (OnFile file c ∷ calls) h = absurd h
 only_gives line bytes (Told t ∷ calls) h = absurd h
+only_gives line bytes (Drew purpose random ∷ calls) h = absurd h
 
 -- at each moment what went and what didn't are the bytes
 pub left_rest : (line : ℕ) (bytes : List ℕ) (calls : List Call) → OnlyLeft line bytes calls → (rest : List ℕ) × (bytes ≡ sent line calls ++ rest)
@@ -68,7 +72,11 @@ left_rest line bytes (Gave l piece (Some n) ∷ calls) h =
     (drop n piece, rw same (h.0.left ∙ sym whole))
 left_rest line bytes (Gave l piece None ∷ calls) h = (piece, h.0.left)
 left_rest line bytes (Shut l ∷ calls) h = absurd h
+left_rest line bytes (Text name room text ∷ calls) h = absurd h
+left_rest line bytes (Attached name done ∷ calls) h = absurd h
+left_rest line bytes (OnFile file c ∷ calls) h = absurd h
 left_rest line bytes (Told t ∷ calls) h = absurd h
+left_rest line bytes (Drew purpose random ∷ calls) h = absurd h
 
 -- what line 0 is given, as each line sees it
 both_on : (b : Bool) (x y : List ℕ) → cond b (cond b x [] ++ y) (cond b x []) ≡ cond b (x ++ y) []
@@ -97,7 +105,11 @@ sent_on line (Gave l piece (Some n) ∷ gives) h =
     rw (h.0, before) (both_on (nat_eq 0 line) (sent 0 gives) (take n piece))
 sent_on line (Gave l piece None ∷ gives) h = sent_on line gives h.1
 sent_on line (Shut l ∷ gives) h = absurd h
+sent_on line (Text name room bytes ∷ gives) h = absurd h
+sent_on line (Attached name done ∷ gives) h = absurd h
+sent_on line (OnFile file c ∷ gives) h = absurd h
 sent_on line (Told t ∷ gives) h = absurd h
+sent_on line (Drew purpose bytes ∷ gives) h = absurd h
 
 -- the last call of these failed
 pub fails-append : (line : ℕ) (late early : List Call) → EndsFailed line late → EndsFailed line (late ++ early)
@@ -107,7 +119,11 @@ fails-append line (Took l room None ∷ late) early h = h
 fails-append line (Gave l piece (Some n) ∷ late) early h = absurd h
 fails-append line (Gave l piece None ∷ late) early h = h
 fails-append line (Shut l ∷ late) early h = absurd h
+fails-append line (Text name room bytes ∷ late) early h = absurd h
+fails-append line (Attached name done ∷ late) early h = absurd h
+fails-append line (OnFile file c ∷ late) early h = absurd h
 fails-append line (Told t ∷ late) early h = absurd h
+fails-append line (Drew purpose bytes ∷ late) early h = absurd h
 
 -- giving leaves the line open
 pub open_gave : (line l : ℕ) (piece : List ℕ) (was now : History) (went : Option ℕ) → now ≡ then_call was (Gave l piece went) → IsOpen line was → IsOpen line now

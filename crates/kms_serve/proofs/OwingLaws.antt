@@ -5,7 +5,7 @@ use Rattle.std.proofs.lemmas.List.{append_assoc, append-nil}
 use Rattle.kms_host.specs.Moment.{AtEach}
 use Rattle.kms_host.specs.Line.{taken, sent, times, failed_on, is_empty, is_shut}
 use Rattle.kms_host.specs.declared.call.Call.{Call}
-use Rattle.kms_host.specs.declared.call.Call.TheVariants.{Took, Gave, Shut, Told}
+use Rattle.kms_host.specs.declared.call.Call.TheVariants.{Text, Attached, Took, Gave, Shut, OnFile, Told, Drew}
 use Rattle.kms_host.proofs.LineLaws.{sent-append, taken-gives, times-gives, at_end-gives, is_shut-gives, failed_on-append}
 use Rattle.kms_host.proofs.Moments.{at_now, at_map}
 use Rattle.kms_world.specs.State.{State}
@@ -52,6 +52,10 @@ turn_marks endpoint first marks more (Shut l ∷ calls) within h = record {
   given = h.given ∙ sym (replies-marks 0 endpoint first (events calls) marks more within);
   over = h.over;
 }
+turn_marks endpoint first marks more (Text name room bytes ∷ calls) within h = absurd h
+turn_marks endpoint first marks more (Attached name done ∷ calls) within h = absurd h
+turn_marks endpoint first marks more (OnFile file c ∷ calls) within h = absurd h
+turn_marks endpoint first marks more (Drew purpose bytes ∷ calls) within h = absurd h
 turn_marks endpoint first marks more (Told t ∷ calls) within h =
     let long = length-append (events calls) (cond (failed_on 0 calls) [] (event_at (length (events calls)) (taken 0 calls) t)) in
     let fewer : length (events calls) ≤ length marks = omega (arith, within, long) in
@@ -194,7 +198,11 @@ given_each endpoint first marks owed (Gave l piece went ∷ gives) calls each ow
   given_each endpoint first marks owed gives calls each owes sound only.1,
 )
 given_each endpoint first marks owed (Shut l ∷ gives) calls each owes sound only = absurd only
+given_each endpoint first marks owed (Text name room bytes ∷ gives) calls each owes sound only = absurd only
+given_each endpoint first marks owed (Attached name done ∷ gives) calls each owes sound only = absurd only
+given_each endpoint first marks owed (OnFile file c ∷ gives) calls each owes sound only = absurd only
 given_each endpoint first marks owed (Told t ∷ gives) calls each owes sound only = absurd only
+given_each endpoint first marks owed (Drew purpose bytes ∷ gives) calls each owes sound only = absurd only
 
 -- the answer of a call that went well
 abbrev pub done : (E : Type 0) → Result (Unit {0}) E

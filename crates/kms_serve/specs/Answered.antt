@@ -2,7 +2,7 @@
 use Rattle.std.specs.Prelude.{◌≡◌, ◌⊎◌, ℕ, ◌≤◌, ◌<◌, List, [], ◌∷◌, ◌++◌, length, true, false, Some}
 use Rattle.kms_host.specs.Line.{taken, sent, times, at_end, is_shut, IsStill}
 use Rattle.kms_host.specs.declared.call.Call.{Call}
-use Rattle.kms_host.specs.declared.call.Call.TheVariants.{Took, Gave, Shut, Told}
+use Rattle.kms_host.specs.declared.call.Call.TheVariants.{Text, Attached, Took, Gave, Shut, OnFile, Told, Drew}
 use Rattle.kms_world.specs.State.{State}
 use Rattle.kms_model.specs.declared.event.Mark.{Mark}
 use Rattle.kms_http.specs.Stream.{front, after}
@@ -45,10 +45,14 @@ pub record IsOver (endpoint : List ℕ) (first : State) (marks : List Mark) (lin
 -- the newest call came in its turn; a time is told only when all earlier replies were given whole
 abbrev pub InTurn : (endpoint : List ℕ) → State → List Mark → List Call → Type 0
 InTurn endpoint first marks [] = Unit {0}
+InTurn endpoint first marks (Text name room bytes ∷ calls) = ⊥
+InTurn endpoint first marks (Attached name done ∷ calls) = ⊥
 InTurn endpoint first marks (Took line room bytes ∷ calls) = IsReady endpoint first marks line room calls
 InTurn endpoint first marks (Gave line piece went ∷ calls) = IsNext endpoint first marks line piece calls
 InTurn endpoint first marks (Shut line ∷ calls) = IsOver endpoint first marks line calls
+InTurn endpoint first marks (OnFile file c ∷ calls) = ⊥
 InTurn endpoint first marks (Told t ∷ calls) = sent 0 calls ≡ replies 0 endpoint first (events calls) marks
+InTurn endpoint first marks (Drew purpose bytes ∷ calls) = ⊥
 
 -- At this moment each time that was told belongs to one message, and what was sent on each line is a front of the
 -- printed answers of the plain key manager to the requests of that line.

@@ -2,7 +2,7 @@
 use Rattle.std.specs.Prelude.{◌≡◌, ◌⊎◌, ℕ, ◌+◌, ◌<◌, List, [], ◌∷◌, length, true, false, Some, None}
 use Rattle.kms_host.specs.Line.{taken, sent, at_end}
 use Rattle.kms_host.specs.declared.call.Call.{Call}
-use Rattle.kms_host.specs.declared.call.Call.TheVariants.{Took, Gave, Shut, Told}
+use Rattle.kms_host.specs.declared.call.Call.TheVariants.{Text, Attached, Took, Gave, Shut, OnFile, Told, Drew}
 use Rattle.kms_world.specs.State.{State}
 use Rattle.kms_model.specs.declared.event.Mark.{Mark}
 use Rattle.kms_http.specs.Stream.{front, after}
@@ -44,20 +44,28 @@ EndsClean calls =
 -- the newest call failed on this line
 abbrev pub EndsFailed : ℕ → List Call → Type 0
 EndsFailed line [] = ⊥
+EndsFailed line (Text name room bytes ∷ calls) = ⊥
+EndsFailed line (Attached name done ∷ calls) = ⊥
 EndsFailed line (Took l room (Some bytes) ∷ calls) = ⊥
 EndsFailed line (Took l room None ∷ calls) = l ≡ line
 EndsFailed line (Gave l piece (Some n) ∷ calls) = ⊥
 EndsFailed line (Gave l piece None ∷ calls) = l ≡ line
 EndsFailed line (Shut l ∷ calls) = ⊥
+EndsFailed line (OnFile file c ∷ calls) = ⊥
 EndsFailed line (Told t ∷ calls) = ⊥
+EndsFailed line (Drew purpose bytes ∷ calls) = ⊥
 
 -- the newest call shut the line
 abbrev pub EndsShut : List Call → Type 0
 EndsShut [] = ⊥
+EndsShut (Text name room bytes ∷ calls) = ⊥
+EndsShut (Attached name done ∷ calls) = ⊥
 EndsShut (Took l room bytes ∷ calls) = ⊥
 EndsShut (Gave l piece went ∷ calls) = ⊥
 EndsShut (Shut l ∷ calls) = l ≡ 0
+EndsShut (OnFile file c ∷ calls) = ⊥
 EndsShut (Told t ∷ calls) = ⊥
+EndsShut (Drew purpose bytes ∷ calls) = ⊥
 
 -- What a status says of the calls of the run. `whole` says that all replies were given.
 abbrev pub IsEnd : Status → List Call → (whole : Type 0) → Type 0

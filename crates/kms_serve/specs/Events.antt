@@ -3,7 +3,7 @@ use Rattle.std.specs.Prelude.{ℕ, min, List, [], ◌∷◌, ◌++◌, length, B
 use Rattle.std.specs.Option.{option_to_list}
 use Rattle.kms_host.specs.Line.{taken, failed_on}
 use Rattle.kms_host.specs.declared.call.Call.{Call}
-use Rattle.kms_host.specs.declared.call.Call.TheVariants.{Took, Gave, Shut, Told}
+use Rattle.kms_host.specs.declared.call.Call.TheVariants.{Text, Attached, Took, Gave, Shut, OnFile, Told, Drew}
 use Rattle.kms_http.specs.Stream.{Served, served_at, is_last}
 
 -- the line is served up to this number of requests
@@ -32,8 +32,12 @@ event_at n bytes t = option_to_list (option_map (event n t) (served_at most n by
 -- A time that was told makes an event, and nothing else does. Behind a failed call of the line there are no more.
 abbrev pub events : List Call → List LineEvent
 events [] = []
+events (Text name room bytes ∷ calls) = events calls
+events (Attached name done ∷ calls) = events calls
 events (Took line room bytes ∷ calls) = events calls
 events (Gave line piece went ∷ calls) = events calls
 events (Shut line ∷ calls) = events calls
+events (OnFile file c ∷ calls) = events calls
+events (Drew purpose bytes ∷ calls) = events calls
 events (Told t ∷ calls) =
     events calls ++ (if failed_on 0 calls then [] else event_at (length (events calls)) (taken 0 calls) t)

@@ -2,7 +2,7 @@
 use Rattle.std.specs.Prelude.{◌≡◌, ℕ, ◌<◌, List, [], ◌∷◌, ◌++◌, length, false, Result, OnOk, OnErr}
 use Rattle.kms_host.specs.Line.{sent, failed_on}
 use Rattle.kms_host.specs.declared.call.Call.{Call}
-use Rattle.kms_host.specs.declared.call.Call.TheVariants.{Took, Gave, Shut, Told}
+use Rattle.kms_host.specs.declared.call.Call.TheVariants.{Text, Attached, Took, Gave, Shut, OnFile, Told, Drew}
 use Rattle.kms_world.specs.State.{State}
 use Rattle.kms_model.specs.Run.{answer_at, state_at}
 use Rattle.kms_model.specs.declared.event.Mark.{Mark}
@@ -38,10 +38,14 @@ pub record IsLeft (line : ℕ) (bytes : List ℕ) (l : ℕ) (piece : List ℕ) (
 -- each of these calls gives all that is left of the bytes
 abbrev pub OnlyLeft : ℕ → List ℕ → List Call → Type 0
 OnlyLeft line bytes [] = Unit {0}
+OnlyLeft line bytes (Text name room text ∷ calls) = ⊥
+OnlyLeft line bytes (Attached name done ∷ calls) = ⊥
 OnlyLeft line bytes (Took l room taken ∷ calls) = ⊥
 OnlyLeft line bytes (Gave l piece went ∷ calls) = IsLeft line bytes l piece calls × OnlyLeft line bytes calls
 OnlyLeft line bytes (Shut l ∷ calls) = ⊥
+OnlyLeft line bytes (OnFile file c ∷ calls) = ⊥
 OnlyLeft line bytes (Told t ∷ calls) = ⊥
+OnlyLeft line bytes (Drew purpose random ∷ calls) = ⊥
 
 -- All of these bytes were given on the line, or a front of them where the last call failed.
 pub record Gives {E : Type 0} (line : ℕ) (bytes : List ℕ) (result : Result (Unit {0}) E) (calls : List Call) : Type 0 where
