@@ -1,5 +1,5 @@
 -- Settling adds the record of the steps that wait.
-use Rattle.std.proofs.Common.{◌≡◌, inl, inr, ℕ, ◌*◌, ◌^◌, ◌<◌, ◌≤◌, List, ◌++◌, length, Some, None, refl, sym, subst, ◌∙◌, arith, length-append}
+use Rattle.std.proofs.Common.{◌≡◌, inl, inr, ℕ, ◌+◌, ◌*◌, ◌^◌, ◌<◌, ◌≤◌, List, ◌++◌, length, Some, None, refl, sym, ap, subst, ◌∙◌, arith, length-append}
 use Rattle.std.specs.Prelude.{Option, Result, Ok, Err}
 use Rattle.kms_world.specs.State.{State}
 use Rattle.kms_host.specs.History.{History}
@@ -13,22 +13,25 @@ use Rattle.kms_journal.specs.Standing.{with_framed}
 use Rattle.kms_journal.proofs.OpeningLaws.{untouched_keeps}
 use Rattle.kms_journal.proofs.ReadingLaws.{untouched}
 use Rattle.kms_journal.proofs.RestLaws.{frame_is_framed}
-use Rattle.kms_core.specs.Stands.{KeptOf, kept_as}
+use Rattle.kms_core.specs.Stands.{KeptOf, HasSteps, kept_as}
 use Rattle.kms_core.specs.Settling.{IsOpened, IsSettledOrAll, Settles}
-use Rattle.kms_core.specs.Waiting.{Spelled, Keeping, IsAhead}
-use Rattle.kms_core.proofs.StandsLaws.{record_leads}
+use Rattle.kms_core.specs.Waiting.{Spelled, Keeping, IsAhead, count_of}
+use Rattle.kms_core.proofs.StandsLaws.{record_leads, record_counts}
 use Rattle.kms_core.proofs.WaitingLaws.{framed_record, record_is}
 
 -- with no step that waits nothing is called
-pub settles_nothing : {T E : Type 0} (k : Keeping) (x : T) → k.waiting ≡ None → (was : History) (settled state : State) → IsOpened k was settled state → Settles {T = T} {E = E} k (Ok x) settled state was was
-settles_nothing k x none was settled state o =
+pub settles_nothing : {T E : Type 0} (k : Keeping) (x : T) → k.waiting ≡ None → (was : History) (settled : State) (steps : ℕ) (state : State) → IsOpened k was settled steps state
+    → Settles {T = T} {E = E} k (Ok x) settled steps state (count_of k.waiting) was was
+settles_nothing k x none was settled steps state o =
     let same : state ≡ settled = subst (λ (w : Option Spelled). IsAhead w settled state) none o.ahead in
+    let many : steps + count_of k.waiting ≡ steps = ap (λ (w : Option Spelled). steps + count_of w) none ∙ omega arith in
     record {
-      throughout = started (IsSettledOrAll settled state was) was (record {
+      throughout = started (IsSettledOrAll settled steps state (count_of k.waiting) was) was (record {
         images = λ quiet image is. inl (record {
           standing = o.standing;
           current = (untouched_keeps was was (untouched was)).images quiet image is ∙ o.placed.current;
           kept = o.kept;
+          counted = o.counted;
         });
         others = refl;
         syncs = omega arith;
@@ -37,6 +40,7 @@ settles_nothing k x none was settled state o =
         standing = o.standing;
         placed = o.placed;
         kept = subst (λ (s : State). KeptOf o.standing (kept_as s)) (sym same) o.kept;
+        counted = subst (HasSteps o.standing) (sym many) o.counted;
         ahead = subst (λ (w : Option Spelled). IsAhead w state state) (sym none) refl;
       };
       quiet = λ quiet. quiet;
@@ -53,7 +57,7 @@ pub spelled_is_framed : (s : Spelled) (framed : List ℕ) → framed ≡ frame (
 spelled_is_framed s framed is short most = subst IsFramed (sym is) (frame_is_framed (u32_bytes s.count ++ s.steps) (few_bytes s short most))
 
 module _ (old : Keeping) (s : Spelled) (framed : List ℕ) (was now : History) (position : Position) (waiting : old.waiting ≡ Some s) (bytes : framed ≡ frame (u32_bytes s.count ++ s.steps))
-    (short : length s.steps ≤ 946 * s.count) (most : s.count ≤ 1152) (settled state : State) (o : IsOpened old was settled state) where
+    (short : length s.steps ≤ 946 * s.count) (most : s.count ≤ 1152) (settled : State) (steps : ℕ) (state : State) (o : IsOpened old was settled steps state) (n : ℕ) (n_is : count_of old.waiting ≡ n) where
   ahead : IsAhead (Some s) settled state
   ahead = subst (λ (w : Option Spelled). IsAhead w settled state) waiting o.ahead
 
@@ -65,25 +69,32 @@ module _ (old : Keeping) (s : Spelled) (framed : List ℕ) (was now : History) (
       subst (λ (f : List ℕ). KeptOf (with_framed o.standing f) (kept_as state)) (sym (bytes ∙ framed_record s ahead.0 ahead.1))
       (record_leads o.standing (kept_as settled) (kept_as state) ahead.0 o.kept ahead.1.admitted few ahead.2)
 
-  at_each : (h : History) → IsBeforeOrAfter o.standing framed was h → IsSettledOrAll settled state was h
+  counted : HasSteps (with_framed o.standing framed) (steps + n)
+  counted =
+      let more = record_counts o.standing steps ahead.0 o.counted ahead.1.admitted few in
+      let many : steps + length ahead.0 ≡ steps + n = ap (λ (k : ℕ). steps + k) (sym ahead.1.count ∙ sym (ap count_of waiting) ∙ n_is) in
+      subst (λ (f : List ℕ). HasSteps (with_framed o.standing f) (steps + n)) (sym (bytes ∙ framed_record s ahead.0 ahead.1))
+      (subst (HasSteps (with_framed o.standing (frame (record_bytes ahead.0)))) many more)
+
+  at_each : (h : History) → IsBeforeOrAfter o.standing framed was h → IsSettledOrAll settled steps state n was h
   at_each h b = record {
     images = λ quiet image is. elim (b.images quiet image is) [
-      | inl e ↦ inl (record { standing = o.standing; current = e; kept = o.kept })
-      | inr e ↦ inr (record { standing = with_framed o.standing framed; current = e; kept = after })
+      | inl e ↦ inl (record { standing = o.standing; current = e; kept = o.kept; counted = o.counted })
+      | inr e ↦ inr (record { standing = with_framed o.standing framed; current = e; kept = after; counted = counted })
     ];
     others = b.others;
     syncs = b.syncs;
   }
 
-  during : {T E : Type 0} (result : Result T E) → Commits {T = T} {E = E} old.journal position framed result o.standing was now → Throughout (IsSettledOrAll settled state was) was now
-  during result k = throughout_weaker (IsBeforeOrAfter o.standing framed was) (IsSettledOrAll settled state was) was now at_each k.throughout
+  during : {T E : Type 0} (result : Result T E) → Commits {T = T} {E = E} old.journal position framed result o.standing was now → Throughout (IsSettledOrAll settled steps state n was) was now
+  during result k = throughout_weaker (IsBeforeOrAfter o.standing framed was) (IsSettledOrAll settled steps state n was) was now at_each k.throughout
 
-  pub settle_fails : {T E F : Type 0} (new : Keeping) (e : E) (f : F) → Commits {T = T} {E = E} old.journal position framed (Err e) o.standing was now → Settles {T = T} {E = F} new (Err f) settled state was now
+  pub settle_fails : {T E F : Type 0} (new : Keeping) (e : E) (f : F) → Commits {T = T} {E = E} old.journal position framed (Err e) o.standing was now → Settles {T = T} {E = F} new (Err f) settled steps state n was now
   settle_fails {T} new e f k = record { throughout = during {T = T} (Err e) k; done = tt; quiet = tt }
 
-  pub settle_done : {T E F : Type 0} (x y : T) → Commits {T = T} {E = E} old.journal position framed (Ok x) o.standing was now → Settles {T = T} {E = F} (record { journal = position; waiting = None }) (Ok y) settled state was now
+  pub settle_done : {T E F : Type 0} (x y : T) → Commits {T = T} {E = E} old.journal position framed (Ok x) o.standing was now → Settles {T = T} {E = F} (record { journal = position; waiting = None }) (Ok y) settled steps state n was now
   settle_done {E = E} x y k = record {
     throughout = during {E = E} (Ok x) k;
-    done = record { standing = with_framed o.standing framed; placed = k.placed; kept = after; ahead = refl };
+    done = record { standing = with_framed o.standing framed; placed = k.placed; kept = after; counted = counted; ahead = refl };
     quiet = k.quiet;
   }

@@ -31,10 +31,33 @@ leads_once (item ∷ items) kept a b p q =
 pub one_kept : (s : Standing) (a b : Kept) → KeptOf s a → KeptOf s b → a ≡ b
 one_kept s a b p q = leads_once s.records (kept_first s.tag s.ids) a b p.records q.records
 
-pub one_state : (files : List ℕ × List ℕ) (a b : State) → Stands files a → Stands files b → a ≡ b
-one_state files a b p q =
-    let same : p.standing ≡ q.standing = some_is p.standing q.standing (sym p.current ∙ q.current) in
-    ap (λ (k : Kept). k.state) (one_kept q.standing (kept_as a) (kept_as b) (subst (λ (s : Standing). KeptOf s (kept_as a)) same p.kept) q.kept)
+counts_once : (items : List (ℕ × List ℕ)) (m n : ℕ) → HaveSteps items m → HaveSteps items n → m ≡ n
+counts_once [] m n p q = p ∙ sym q
+counts_once (item ∷ items) m n p q =
+    let rest = counts_once items p.1 q.1 p.3 q.3 in
+    let steps : length p.0 ≡ length q.0 = ap length (one_reading item.1 p.0 q.0 p.2 q.2) in
+    omega (arith, p.4, q.4, rest, steps)
+
+pub one_count : (s : Standing) (m n : ℕ) → HasSteps s m → HasSteps s n → m ≡ n
+one_count s m n p q = omega (arith, p.2, q.2, counts_once s.records p.0 q.0 p.1 q.1)
+
+pub one_state : (files : List ℕ × List ℕ) (a b : State) (m n : ℕ) → Stands files a m → Stands files b n → (a ≡ b) × (m ≡ n)
+one_state files a b m n p q =
+    let same : p.standing ≡ q.standing = some_is p.standing q.standing (sym p.current ∙ q.current) in (
+      ap (λ (k : Kept). k.state) (one_kept q.standing (kept_as a) (kept_as b) (subst (λ (s : Standing). KeptOf s (kept_as a)) same p.kept) q.kept),
+      one_count q.standing m n (subst (λ (s : Standing). HasSteps s m) same p.counted) q.counted,
+    )
+
+-- records that lead on have a number of steps
+counts_of : (items : List (ℕ × List ℕ)) (kept after : Kept) → LeadTo items kept after → (n : ℕ) × HaveSteps items n
+counts_of [] kept after p = (0, refl)
+counts_of (item ∷ items) kept after p = let rest = counts_of items p.0 after p.2 in (length p.1.steps + rest.0, (p.1.steps, rest.0, p.1.read, rest.1, refl))
+
+pub kept_counts : (s : Standing) (kept : Kept) → KeptOf s kept → (n : ℕ) × HasSteps s n
+kept_counts s kept p = let all = counts_of s.records (kept_first s.tag s.ids) kept p.records in (s.steps + all.0, (all.0, all.1, refl))
+
+pub fresh_counted : (tag : ℕ) → HasSteps (fresh tag) 0
+fresh_counted tag = (0, refl, refl)
 
 applies_or_not : (bytes : List ℕ) (kept after : Kept) → Applies bytes kept after → IsBroken bytes kept → ⊥
 applies_or_not bytes kept after p broken = let e : Some after ≡ None = sym p.leads ∙ broken p.steps p.read in cc

@@ -22,6 +22,7 @@ use Rattle.kms_core.specs.Loading.{IsBrokenAt, IsFirstDamage, Loads, Refuses}
 use Rattle.kms_core.specs.Starting.{IsRefusal, OpensJournal, Starts}
 use Rattle.kms_core.specs.Steps.{Held}
 use Rattle.kms_core.specs.declared.start_fault.StartFault.{StartFault}
+use Rattle.kms_core.proofs.StandsLaws.{kept_counts}
 use Rattle.kms_core.specs.declared.start_fault.StartFault.TheVariants.{NoStore, Damaged, StoreFault, NoMemory}
 
 -- records that apply, and stop where they aren't whole
@@ -115,12 +116,14 @@ module _ (p : Position) (was mid now : History) (o : OpensJournal (Ok p) was mid
         let g = gathers s o.answer.2 in
         let loads : Loads (chain_of s) (Ok kept) = subst (λ (c : Chain). Loads c (Ok kept)) g.answer l in
         let keeps : KeptOf s kept = record { whole = o.answer.2.whole; begun = loads.0; records = loads.1 } in
+        let steps = kept_counts s kept keeps in
         let now_placed = placed_after p s mid now g.throughout o.answer.2 in
         subst (λ (x : Held). Starts (Ok x) was now) (sym is) (record {
           throughout = during g.throughout;
           answer = (
-            record { standing = s; current = o.answer.1; kept = keeps },
-            (record { journal = p; waiting = None }, refl, refl, record { standing = s; placed = now_placed; kept = keeps; ahead = refl }),
+            steps.0,
+            record { standing = s; current = o.answer.1; kept = keeps; counted = steps.1 },
+            (record { journal = p; waiting = None }, refl, refl, record { standing = s; placed = now_placed; kept = keeps; counted = steps.1; ahead = refl }),
             λ quiet. quiet_after mid now (at_last (IsUntouched mid) mid now g.throughout) (o.answer.3 quiet),
           );
         })

@@ -36,12 +36,6 @@ pub record KeptOf (s : Standing) (kept : Kept) : Type 0 where
   pub begun : IsBegun s.tag s.ids s.snapshot
   pub records : LeadTo s.records (kept_first s.tag s.ids) kept
 
--- The two files of a store stand for this state.
-pub record Stands (files : List ℕ × List ℕ) (state : State) : Type 0 where
-  pub standing : Standing
-  pub current : standing_of files ≡ Some standing
-  pub kept : KeptOf standing (kept_as state)
-
 -- the records have so many steps
 abbrev pub HaveSteps : List (ℕ × List ℕ) → ℕ → Type 0
 HaveSteps [] n = n ≡ 0
@@ -50,6 +44,13 @@ HaveSteps (item ∷ items) n = (steps : List (List Change)) × (rest : ℕ) × I
 -- how many steps a store stands for: those of its snapshot, and those in its records
 abbrev pub HasSteps : Standing → ℕ → Type 0
 HasSteps s n = (m : ℕ) × HaveSteps s.records m × (n ≡ s.steps + m)
+
+-- The two files of a store stand for this state, after so many steps.
+pub record Stands (files : List ℕ × List ℕ) (state : State) (steps : ℕ) : Type 0 where
+  pub standing : Standing
+  pub current : standing_of files ≡ Some standing
+  pub kept : KeptOf standing (kept_as state)
+  pub counted : HasSteps standing steps
 
 -- no reading of the bytes applies
 abbrev pub IsBroken : List ℕ → Kept → Type 0

@@ -1,5 +1,5 @@
 -- What starting over a store answers, and does to it.
-use Rattle.std.specs.Prelude.{◌≡◌, ℕ, Some, None, Result, Ok, Err}
+use Rattle.std.specs.Prelude.{◌≡◌, ℕ, Some, None, Result, Ok, Err, Bool, true, false}
 use Rattle.kms_host.specs.Disk.{files}
 use Rattle.kms_host.specs.History.{History}
 use Rattle.kms_host.specs.Moment.{Throughout}
@@ -9,11 +9,17 @@ use Rattle.kms_journal.specs.Recovery.{KeepsStanding}
 use Rattle.kms_journal.specs.Standing.{Standing, standing_of}
 use Rattle.kms_journal.specs.declared.fault.Place.TheVariants.{Body}
 use Rattle.kms_core.specs.Stands.{Stands, IsDamagedAt}
-use Rattle.kms_core.specs.Settling.{IsOpened}
-use Rattle.kms_core.specs.Steps.{Held}
-use Rattle.kms_core.specs.Waiting.{Keeping}
+use Rattle.kms_core.specs.Steps.{Held, IsSettled}
 use Rattle.kms_core.specs.declared.start_fault.StartFault.{StartFault}
 use Rattle.kms_core.specs.declared.start_fault.StartFault.TheVariants.{NoStore, Damaged, StoreFault, NoMemory}
+
+-- the fault of the store is answered
+abbrev pub is_failed_start : {T : Type 0} → Result T StartFault → Bool
+is_failed_start (Ok x) = false
+is_failed_start (Err NoStore) = false
+is_failed_start (Err (Damaged place)) = false
+is_failed_start (Err StoreFault) = true
+is_failed_start (Err NoMemory) = false
 
 -- What a fault says of the files as they read at first: there is no store, or this is the first place at which what it
 -- keeps is damaged.
@@ -25,8 +31,8 @@ IsRefusal NoMemory was = Unit {0}
 
 -- An engine has the state for which the files stood at first, with its journal at the store's end, and no step waits.
 abbrev pub IsStart : Result Held StartFault → History → History → Type 0
-IsStart (Ok engine) was now = Stands (files was) engine.state
-    × ((store : Keeping) × (engine.store ≡ Some store) × (store.waiting ≡ None) × IsOpened store now engine.state engine.state)
+IsStart (Ok engine) was now = (steps : ℕ) × Stands (files was) engine.state steps
+    × IsSettled engine steps now
     × (IsQuietStore was → IsQuietStore now)
 IsStart (Err fault) was now = IsRefusal fault was
 

@@ -1,5 +1,5 @@
 -- Steps, and what preparing one promises.
-use Rattle.std.specs.Prelude.{◌≡◌, ◌<◌, ◌^◌, Option, Some, None, Bool, IsTrue, IfSome}
+use Rattle.std.specs.Prelude.{◌≡◌, ℕ, ◌<◌, ◌^◌, Option, Some, None, Bool, IsTrue, IfSome}
 use Rattle.kms_world.specs.State.{State}
 use Rattle.kms_world.specs.Times.{IsTimely}
 use Rattle.kms_model.specs.AskSecret.{with_secret}
@@ -33,6 +33,10 @@ abbrev pub IsSpelledBehind : Held → Step → Type 0
 IsSpelledBehind engine step = IfSome engine.store (λ store. (settled : State)
     → IsAhead store.waiting settled engine.state → IsAhead step.waiting settled (after_step engine.state step))
 
--- The engine has a store, which stands for the state that was settled, and the steps that wait lead to the engine's.
-abbrev pub IsKeeping : Held → History → State → Type 0
-IsKeeping engine h settled = (store : Keeping) × (engine.store ≡ Some store) × IsOpened store h settled engine.state
+-- no step waits
+abbrev pub IsIdle : Held → Type 0
+IsIdle engine = IfSome engine.store (λ store. store.waiting ≡ None)
+
+-- The engine has a store, which stands for its state after so many steps, and no step waits.
+abbrev pub IsSettled : Held → ℕ → History → Type 0
+IsSettled engine steps h = (store : Keeping) × (engine.store ≡ Some store) × (store.waiting ≡ None) × IsOpened store h engine.state steps engine.state

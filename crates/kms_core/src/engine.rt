@@ -1,16 +1,17 @@
 // The engine and its calls.
-ghost use Rattle.std.specs.Prelude.{◌≡◌, ◌<◌, ◌^◌, IfOk, Some, None, Ok, is_some, IfSome, option_map, OnOk, OnErr, IsTrue};
+ghost use Rattle.std.specs.Prelude.{◌≡◌, ℕ, ◌<◌, ◌^◌, IfOk, Some, None, Ok, is_some, is_err, IfSome, option_map, OnOk, OnErr, IsTrue};
 ghost use Rattle.kms_world.specs.State.{State, empty_state};
 ghost use Rattle.kms_world.specs.Times.{HasTimes, IsTimely};
 ghost use Rattle.kms_model.specs.Ask.{answer_to, state_after, stores};
 ghost use Rattle.kms_host.specs.Faults.{HasCause};
 ghost use Rattle.kms_host.specs.History.{Tells, WhereTold, Stops};
 ghost use Rattle.kms_host.specs.declared.call.Count.TheVariants as counts;
+ghost use Rattle.kms_journal.specs.Fault.{Fails};
 ghost use Rattle.kms_journal.specs.Position.{IsPlaced};
 ghost use Rattle.kms_journal.specs.Standing.{Standing};
-ghost use Rattle.kms_core.specs.Steps.{after_step, Prepares, IsSpelledBehind};
+ghost use Rattle.kms_core.specs.Steps.{after_step, Prepares, IsIdle, IsSpelledBehind};
 ghost use Rattle.kms_core.specs.Settling.{IsOpened, Settles};
-ghost use Rattle.kms_core.specs.Waiting.{Keeping, with_waiting};
+ghost use Rattle.kms_core.specs.Waiting.{Keeping, with_waiting, count_of};
 
 use crate::opened::Opened;
 use crate::{AskFault, Asked, Step};
@@ -114,14 +115,15 @@ impl Engine {
     pub fn settle<H: Host>(&mut self, host: &mut H) -> Result<(), StoreFault>
         requires placed { IfSome self.old.store (λ store. IsTrue (is_some store.waiting)
             → WhereTold (H.history host.old) (λ h. (s : Standing) × IsPlaced store.journal h s)) }
-        ensures told { Tells (H.history host.old) (H.history host.new) (λ was now. (store : Keeping) (settled : State)
-            → self.old.store ≡ Some store → IsOpened store was settled self.old.state
-            → (new : Keeping) × (self.new.store ≡ Some new) × Settles new result settled self.old.state was now) }
+        ensures told { Tells (H.history host.old) (H.history host.new) (λ was now. (store : Keeping) (settled : State) (steps : ℕ)
+            → self.old.store ≡ Some store → IsOpened store was settled steps self.old.state
+            → (new : Keeping) × (self.new.store ≡ Some new) × Settles new result settled steps self.old.state (count_of store.waiting) was now) }
         ensures same { self.new.state ≡ self.old.state }
-        ensures ok { OnOk result (IfSome self.new.store (λ store. store.waiting ≡ None)) }
+        ensures ok { OnOk result (IsIdle self.new) }
         ensures err { OnErr result (self.new ≡ self.old) }
-        ensures idle { IfSome self.old.store (λ store. store.waiting ≡ None) → (result ≡ Ok tt) × (host.new ≡ host.old) }
+        ensures idle { IsIdle self.old → (result ≡ Ok tt) × (host.new ≡ host.old) }
         ensures cause { HasCause counts.Store (H.faults host.old) (H.faults host.new) result }
+        ensures failed { Tells (H.history host.old) (H.history host.new) (Fails (is_err result)) }
         ensures stops { Stops (H.wanted host.old) (H.wanted host.new) (H.history host.old) (H.history host.new) }
     {
         match &mut self.store {

@@ -9,9 +9,9 @@ ghost use Rattle.kms_journal.specs.Create.{fresh};
 ghost use Rattle.kms_journal.specs.Standing.{Standing, with_framed};
 ghost use Rattle.kms_core.specs.Stands.{Stands, KeptOf, HasSteps, IsDamagedAt, kept_as};
 
-/// Files stand for one state at most.
+/// Files stand for one state at most, and for one number of steps.
 pub fn files_stand_for_one_state()
-    ensures { (files : List ℕ × List ℕ) (a b : State) → Stands files a → Stands files b → a ≡ b }
+    ensures { (files : List ℕ × List ℕ) (a b : State) (m n : ℕ) → Stands files a m → Stands files b n → (a ≡ b) × (m ≡ n) }
 {}
 
 /// What stands for a state has no damage.

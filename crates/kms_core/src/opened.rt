@@ -1,12 +1,14 @@
 // An opened store.
-ghost use Rattle.std.specs.Prelude.{◌≡◌, None, Ok, IsTrue, is_some, OnOk, OnErr};
+ghost use Rattle.std.specs.Prelude.{◌≡◌, ℕ, None, Ok, IsTrue, is_some, is_err, OnOk, OnErr};
 ghost use Rattle.kms_world.specs.State.{State};
 ghost use Rattle.kms_host.specs.Faults.{HasCause};
 ghost use Rattle.kms_host.specs.History.{Tells, WhereTold, Stops};
 ghost use Rattle.kms_host.specs.declared.call.Count.TheVariants as counts;
+ghost use Rattle.kms_journal.specs.Fault.{Fails};
 ghost use Rattle.kms_journal.specs.Position.{IsPlaced};
 ghost use Rattle.kms_journal.specs.Standing.{Standing};
 ghost use Rattle.kms_core.specs.Settling.{IsOpened, Settles};
+ghost use Rattle.kms_core.specs.Waiting.{count_of};
 
 use crate::waiting::Waiting;
 use kms_host::Host;
@@ -34,12 +36,14 @@ impl Opened {
     /// Writes the steps that wait to the store, as one record. With none it makes no call.
     pub(crate) fn settle<H: Host>(&mut self, host: &mut H) -> Result<(), StoreFault>
         requires placed { IsTrue (is_some self.old.waiting) → WhereTold (H.history host.old) (λ h. (s : Standing) × IsPlaced self.old.journal h s) }
-        ensures told { Tells (H.history host.old) (H.history host.new) (λ was now. (settled state : State)
-            → IsOpened self.old was settled state → Settles self.new result settled state was now) }
+        ensures told { Tells (H.history host.old) (H.history host.new) (λ was now. (settled : State) (steps : ℕ) (state : State)
+            → IsOpened self.old was settled steps state
+            → Settles self.new result settled steps state (count_of self.old.waiting) was now) }
         ensures ok { OnOk result (self.new.waiting ≡ None) }
         ensures err { OnErr result (self.new ≡ self.old) }
         ensures idle { self.old.waiting ≡ None → (result ≡ Ok tt) × (host.new ≡ host.old) }
         ensures cause { HasCause counts.Store (H.faults host.old) (H.faults host.new) result }
+        ensures failed { Tells (H.history host.old) (H.history host.new) (Fails (is_err result)) }
         ensures stops { Stops (H.wanted host.old) (H.wanted host.new) (H.history host.old) (H.history host.new) }
     {
         let Some(waiting) = &self.waiting else {

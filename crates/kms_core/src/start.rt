@@ -1,9 +1,11 @@
 // An engine over a store.
-ghost use Rattle.std.specs.Prelude.{◌≡◌, Some, None, false};
+ghost use Rattle.std.specs.Prelude.{◌≡◌, IfOk, Some, None, false};
 ghost use Rattle.kms_host.specs.History.{Tells, WhereTold, Stops};
 ghost use Rattle.kms_host.specs.Store.{IsAttached};
 ghost use Rattle.kms_journal.specs.Device.{HasStoreCause};
-ghost use Rattle.kms_core.specs.Starting.{Starts, OpensJournal};
+ghost use Rattle.kms_journal.specs.Fault.{Fails};
+ghost use Rattle.kms_core.specs.Starting.{Starts, OpensJournal, is_failed_start};
+ghost use Rattle.kms_core.specs.Steps.{IsIdle};
 ghost use Rattle.kms_core.specs.declared.start_fault.StartFault.TheVariants as faults;
 
 use crate::load::{load, refusal};
@@ -18,6 +20,7 @@ fn open<H: Host>(alloc: Global, host: &mut H) -> Result<Journal, StartFault>
     requires { WhereTold (H.history host.old) IsAttached }
     ensures told { Tells (H.history host.old) (H.history host.new) (OpensJournal result) }
     ensures cause { HasStoreCause faults.StoreFault (H.faults host.old) (H.faults host.new) result }
+    ensures failed { Tells (H.history host.old) (H.history host.new) (Fails (is_failed_start result)) }
     ensures stops { Stops (H.wanted host.old) (H.wanted host.new) (H.history host.old) (H.history host.new) }
 {
     match recover(alloc, host) {
@@ -53,7 +56,9 @@ impl Engine {
     pub fn start<H: Host>(alloc: Global, host: &mut H) -> Result<Engine, StartFault>
         requires { WhereTold (H.history host.old) IsAttached }
         ensures told { Tells (H.history host.old) (H.history host.new) (Starts result) }
+        ensures idle { IfOk result IsIdle }
         ensures cause { HasStoreCause faults.StoreFault (H.faults host.old) (H.faults host.new) result }
+        ensures failed { Tells (H.history host.old) (H.history host.new) (Fails (is_failed_start result)) }
         ensures stops { Stops (H.wanted host.old) (H.wanted host.new) (H.history host.old) (H.history host.new) }
     {
         let mut journal = open(alloc, host)?;
