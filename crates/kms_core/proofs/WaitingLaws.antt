@@ -16,7 +16,7 @@ use Rattle.kms_record.proofs.KeptLaws.{record-append, new_secret_is_kept}
 use Rattle.kms_world.specs.declared.secret.SecretRow.{SecretRow}
 use Rattle.kms_model.specs.AskSecret.{with_secret}
 use Rattle.std.specs.Prelude.{Result, Ok, Err, IfOk, OnOk}
-use Rattle.kms_core.specs.Spelling.{LeadsBehind}
+use Rattle.kms_core.specs.Spelling.{IsNew, LeadsBehind}
 use Rattle.kms_record.proofs.SizeLaws.{step_is_short_lem}
 use Rattle.kms_journal.specs.Commit.{frame}
 use Rattle.kms_core.specs.Stands.{kept_as}
@@ -79,11 +79,13 @@ framed_record s steps spells = ap frame (record_is s steps spells)
 -- a new secret's step leads on
 leads_behind : (before : Option Spelled) (count : ℕ) (row : SecretRow) (put : put_type.SecretPut) (step : List Change) (s : Spelled) → put ≡ put_of count row → step ≡ SecretPut put ∷ []
     → s.count ≡ count_of before + 1 → s.count ≤ 1152 → s.steps ≡ steps_of before ++ step_bytes step → IsStep step → LeadsBehind before count row s
-leads_behind before count row put step s put_is step_is one most spelled is settled state ids new ahead =
-    ahead_by_one before s step settled state (with_secret state row) one most spelled is leads ahead
+leads_behind before count row put step s put_is step_is one most spelled is = (
+  one,
+  λ settled state ids new ahead. ahead_by_one before s step settled state (with_secret state row) one most spelled is (leads state ids new) ahead,
+)
   where
-    leads : after_step step (kept_as state) ≡ Some (kept_as (with_secret state row))
-    leads =
+    leads : (state : State) → state.ids ≡ count → IsNew state row → after_step step (kept_as state) ≡ Some (kept_as (with_secret state row))
+    leads state ids new =
         ap (λ (st : List Change). after_step st (kept_as state)) (step_is ∙ ap (λ (p : put_type.SecretPut). let l : List Change = SecretPut p ∷ [] in l) (put_is ∙ ap (λ (n : ℕ). put_of n row) (sym ids)))
         ∙ (rw (new_secret_is_kept (kept_as state) row new.left new.id new.payload new.metadata) refl)
 

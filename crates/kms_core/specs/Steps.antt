@@ -1,11 +1,11 @@
 -- Steps, and what preparing one promises.
-use Rattle.std.specs.Prelude.{◌≡◌, ℕ, ◌<◌, ◌^◌, Option, Some, None, Bool, IsTrue, IfSome}
+use Rattle.std.specs.Prelude.{◌≡◌, ℕ, ◌<◌, ◌+◌, ◌^◌, Option, Some, None, Bool, IsTrue, IfSome}
 use Rattle.kms_world.specs.State.{State}
 use Rattle.kms_world.specs.Times.{IsTimely}
 use Rattle.kms_model.specs.AskSecret.{with_secret}
 use Rattle.kms_host.specs.History.{History}
 use Rattle.kms_core.specs.Settling.{IsOpened}
-use Rattle.kms_core.specs.Waiting.{Keeping, IsAhead}
+use Rattle.kms_core.specs.Waiting.{Keeping, IsAhead, count_of}
 use Rattle.kms_core.specs.declared.step.Step.{Step}
 
 -- what contracts see of an engine: its state, whether there is room for a step, and its store, if it has one
@@ -28,10 +28,11 @@ abbrev pub Prepares : Option Step → State → State → Bool → Type 0
 Prepares None before after room = after ≡ before
 Prepares (Some step) before after room = LeadsTo step before after room
 
--- Where the engine has a store, the step is spelled behind the steps that wait there: together they lead on.
+-- Where the engine has a store, the step is spelled behind the steps that wait there: they are one more, and together
+-- they lead on.
 abbrev pub IsSpelledBehind : Held → Step → Type 0
-IsSpelledBehind engine step = IfSome engine.store (λ store. (settled : State)
-    → IsAhead store.waiting settled engine.state → IsAhead step.waiting settled (after_step engine.state step))
+IsSpelledBehind engine step = IfSome engine.store (λ store. (count_of step.waiting ≡ count_of store.waiting + 1)
+    × ((settled : State) → IsAhead store.waiting settled engine.state → IsAhead step.waiting settled (after_step engine.state step)))
 
 -- no step waits
 abbrev pub IsIdle : Held → Type 0

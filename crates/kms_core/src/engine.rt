@@ -11,7 +11,7 @@ ghost use Rattle.kms_journal.specs.Position.{IsPlaced};
 ghost use Rattle.kms_journal.specs.Standing.{Standing};
 ghost use Rattle.kms_core.specs.Steps.{after_step, Prepares, IsIdle, IsSpelledBehind};
 ghost use Rattle.kms_core.specs.Settling.{IsOpened, Settles};
-ghost use Rattle.kms_core.specs.Waiting.{Keeping, with_waiting, count_of};
+ghost use Rattle.kms_core.specs.Waiting.{Keeping, count_of, with_waiting};
 
 use crate::opened::Opened;
 use crate::{AskFault, Asked, Step};
@@ -63,7 +63,7 @@ impl Engine {
 
     /// The plain key manager's answer to an operation of a caller at a time in seconds since 1970, and the step that
     /// it needs: one exactly where the operation is accepted and writes. No row changes. After a fault nothing has
-    /// changed.
+    /// changed. Over a store fewer than 1,152 accepted steps may wait to be settled.
     pub fn ask<H: Host>(
         &mut self,
         host: &mut H,
@@ -71,7 +71,8 @@ impl Engine {
         op: Op,
         moment: u64,
     ) -> Result<Asked, AskFault>
-        requires { moment < 253402300800 }
+        requires time { moment < 253402300800 }
+        requires few { IfSome self.old.store (λ store. count_of store.waiting < 1152) }
         ensures answer { IfOk result (λ a. a.answer ≡ answer_to self.old.state caller.now op moment) }
         ensures step { IfOk result (λ a. Prepares a.step self.old.state (state_after self.old.state caller.now op moment) self.new.room) }
         ensures stores { IfOk result (λ a. is_some a.step ≡ stores self.old.state caller.now op moment) }

@@ -3,6 +3,7 @@ ghost use Rattle.std.specs.Prelude.{◌≡◌, ◌<◌, IfOk, is_some, IfSome, N
 ghost use Rattle.kms_model.specs.AskSecret.{is_secret, is_live, has_id, posted_answer, posted_state, secret_at, found_answer};
 ghost use Rattle.kms_core.specs.Steps.{Prepares, IsSpelledBehind};
 ghost use Rattle.kms_core.specs.Spelling.{IsPutBehind};
+ghost use Rattle.kms_core.specs.Waiting.{count_of};
 ghost use Rattle.kms_world.specs.Times.{HasTimes};
 
 use crate::spelling::spell;
@@ -48,6 +49,7 @@ fn refused(refusal: Refusal) -> Asked
 impl Engine {
     // Where the engine has a store: the steps that wait there, and the one that adds this secret.
     fn spelled(&self, secret: &SecretRow) -> Result<Option<Waiting>, NoMemory>
+        requires few { IfSome self.now.store (λ store. count_of store.waiting < 1152) }
         ensures { IfOk result (λ waiting. IsPutBehind self.now secret.now waiting) }
     {
         match &self.store {
@@ -62,7 +64,8 @@ impl Engine {
         body: SecretBody,
         moment: u64,
     ) -> Result<Asked, AskFault>
-        requires { moment < 253402300800 }
+        requires time { moment < 253402300800 }
+        requires few { IfSome self.old.store (λ store. count_of store.waiting < 1152) }
         ensures answer { IfOk result (λ a. a.answer ≡ posted_answer self.old.state) }
         ensures step { IfOk result (λ a. Prepares a.step self.old.state (posted_state self.old.state caller.now body moment) self.new.room) }
         ensures stores { IfOk result (λ a. is_some a.step ≡ has_id self.old.state) }

@@ -1,6 +1,7 @@
 // Steps as they are spelled.
-ghost use Rattle.std.specs.Prelude.{◌≡◌, IfOk};
+ghost use Rattle.std.specs.Prelude.{◌<◌, IfOk};
 ghost use Rattle.kms_core.specs.Spelling.{LeadsBehind};
+ghost use Rattle.kms_core.specs.Waiting.{count_of};
 
 use crate::waiting::Waiting;
 use kms_record::{Change, SecretPut, Step};
@@ -15,6 +16,7 @@ pub(crate) fn spell(
     count: u64,
     secret: &SecretRow,
 ) -> Result<Waiting, NoMemory>
+    requires few { count_of before.now < 1152 }
     ensures { IfOk result (λ waiting. LeadsBehind before.now count secret.now waiting) }
 {
     let put = SecretPut::of(secret, count)?;

@@ -22,8 +22,8 @@ pub struct Asked {
 /// Why an operation has no answer. Nothing has changed.
 #[derive(Clone, Copy, Debug, PartialEq, Eq)]
 pub enum AskFault {
-    /// Out of memory. So is an engine over a store at which 1,152 accepted steps wait to be settled, and one that is
-    /// given what no record has room for: a name of more than 255 bytes.
+    /// Out of memory. So is an engine over a store that is given what no record has room for: a name of more than
+    /// 255 bytes.
     NoMemory,
 }
 

@@ -10,11 +10,8 @@ use kms_world::{Bytes, NoMemory};
 use std::alloc::Global;
 use std::marker::Model;
 
-/// So many accepted steps wait at most.
-const MOST: u32 = 1_152;
-
-/// Steps spelled as one framed record: its length in 4 bytes, their number in 4 bytes, their spellings, and a clear
-/// commit mark. Contracts see the number and the spellings.
+/// Steps spelled as one framed record, 1,152 at most: its length in 4 bytes, their number in 4 bytes, their spellings,
+/// and a clear commit mark. Contracts see the number and the spellings.
 #[derive(Drop, Debug)]
 pub struct Waiting {
     count: u32,
@@ -75,6 +72,7 @@ impl Waiting {
         before: &Option<Waiting>,
         step: &Step,
     ) -> Result<Waiting, NoMemory>
+        requires few { count_of before.now < 1152 }
         requires range { IsStepInRange step.now }
         requires one { length step.now ≡ 1 }
         ensures count { IfOk result (λ w. w.count ≡ count_of before.now + 1) }
@@ -82,15 +80,12 @@ impl Waiting {
         ensures most { IfOk result (λ w. w.count ≤ 1152) }
         ensures admitted { OnOk result (IsStep step.now) }
     {
-        let count = count_of(before);
-        if count >= MOST {
-            return Err(NoMemory);
-        }
+        let count = count_of(before) + 1;
         let mut steps = copied(alloc, before)?;
         encode_step(step, &mut steps)?;
-        let framed = framed(alloc, count + 1, steps.as_slice())?;
+        let framed = framed(alloc, count, steps.as_slice())?;
         Ok(Waiting {
-            count: count + 1,
+            count,
             steps,
             framed,
         })
