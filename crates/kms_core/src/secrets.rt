@@ -111,6 +111,7 @@ impl Engine {
             payload: None,
             metadata: Pairs::new(self.alloc),
         };
+        // A record has room for each name.
         prove!(secret.project.as_bytes().len() <= 64 && secret.creator.as_bytes().len() <= 64);
         let waiting = self.spelled(&secret)?;
         Ok(Asked {
