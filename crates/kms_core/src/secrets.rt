@@ -1,6 +1,7 @@
 // Operations on secrets.
 ghost use Rattle.std.specs.Prelude.{◌≡◌, ◌<◌, IfOk, is_some, IfSome, None, option_copied, find};
-ghost use Rattle.kms_model.specs.AskSecret.{is_secret, is_live, has_id, posted_answer, posted_state, secret_at, found_answer};
+ghost use Rattle.kms_model.specs.AskSecret.{is_secret, is_live, is_short_name, is_stored, posted_answer, posted_state, secret_at, found_answer};
+ghost use Rattle.kms_record.specs.SecretPut.{IsInRange, put_of};
 ghost use Rattle.kms_core.specs.Steps.{Prepares, IsSpelledBehind};
 ghost use Rattle.kms_core.specs.Spelling.{IsPutBehind};
 ghost use Rattle.kms_core.specs.Waiting.{count_of};
@@ -10,8 +11,19 @@ use crate::spelling::spell;
 use crate::waiting::Waiting;
 use crate::{AskFault, Asked, Engine, Step};
 use kms_world::{
-    Answer, Caller, Id, Link, NoMemory, Pairs, Refusal, SecretBody, SecretKind, SecretRow, id_of,
+    Answer, Caller, Field, Id, Link, NoMemory, Pairs, Refusal, SecretBody, SecretKind, SecretRow,
+    Text, id_of,
 };
+
+// Where there is a name, it has at most 255 bytes.
+fn is_short_name(name: &Option<Text>) -> bool
+    ensures { result ≡ is_short_name name.now }
+{
+    match name {
+        None => true,
+        Some(name) => name.as_str().len() <= 255,
+    }
+}
 
 fn is_live(moment: u64, expiration: Option<u64>) -> bool
     ensures { result ≡ is_live moment expiration }
@@ -50,6 +62,7 @@ impl Engine {
     // Where the engine has a store: the steps that wait there, and the one that adds this secret.
     fn spelled(&self, secret: &SecretRow) -> Result<Option<Waiting>, NoMemory>
         requires few { IfSome self.now.store (λ store. count_of store.waiting < 1152) }
+        requires range { IsInRange (put_of self.now.state.ids secret.now) }
         ensures { IfOk result (λ waiting. IsPutBehind self.now secret.now waiting) }
     {
         match &self.store {
@@ -66,14 +79,17 @@ impl Engine {
     ) -> Result<Asked, AskFault>
         requires time { moment < 253402300800 }
         requires few { IfSome self.old.store (λ store. count_of store.waiting < 1152) }
-        ensures answer { IfOk result (λ a. a.answer ≡ posted_answer self.old.state) }
+        ensures answer { IfOk result (λ a. a.answer ≡ posted_answer self.old.state body) }
         ensures step { IfOk result (λ a. Prepares a.step self.old.state (posted_state self.old.state caller.now body moment) self.new.room) }
-        ensures stores { IfOk result (λ a. is_some a.step ≡ has_id self.old.state) }
+        ensures stores { IfOk result (λ a. is_some a.step ≡ is_stored self.old.state body) }
         ensures times { IfOk result (λ a. HasTimes a.answer) }
         ensures spelled { IfOk result (λ a. IfSome a.step (IsSpelledBehind self.old)) }
         ensures same { self.new.state ≡ self.old.state }
         ensures store { self.new.store ≡ self.old.store }
     {
+        if !is_short_name(&body.name) {
+            return Ok(refused(Refusal::BadBody(Field::Name)));
+        }
         if self.ids >= 1 << 62 {
             return Ok(refused(Refusal::IdsSpent));
         }
@@ -95,6 +111,8 @@ impl Engine {
             payload: None,
             metadata: Pairs::new(self.alloc),
         };
+        // A record has room for each name.
+        prove!(secret.project.as_bytes().len() <= 64 && secret.creator.as_bytes().len() <= 64);
         let waiting = self.spelled(&secret)?;
         Ok(Asked {
             answer: Answer::Link {

@@ -1,5 +1,6 @@
 // Steps as they are spelled.
 ghost use Rattle.std.specs.Prelude.{◌<◌, IfOk};
+ghost use Rattle.kms_record.specs.SecretPut.{IsInRange, put_of};
 ghost use Rattle.kms_core.specs.Spelling.{LeadsBehind};
 ghost use Rattle.kms_core.specs.Waiting.{count_of};
 
@@ -8,8 +9,7 @@ use kms_record::{Change, SecretPut, Step};
 use kms_world::{NoMemory, SecretRow};
 use std::alloc::Global;
 
-/// The steps that wait, and behind them the one that puts a new secret under the id of this count. Where a record has no
-/// room for its attributes it is out of memory.
+/// The steps that wait, and behind them the one that puts a new secret under the id of this count.
 pub(crate) fn spell(
     alloc: Global,
     before: &Option<Waiting>,
@@ -17,12 +17,10 @@ pub(crate) fn spell(
     secret: &SecretRow,
 ) -> Result<Waiting, NoMemory>
     requires few { count_of before.now < 1152 }
+    requires range { IsInRange (put_of count secret.now) }
     ensures { IfOk result (λ waiting. LeadsBehind before.now count secret.now waiting) }
 {
     let put = SecretPut::of(secret, count)?;
-    if !put.is_in_range() {
-        return Err(NoMemory);
-    }
     let mut step = Step::new(alloc);
     step.push(Change::SecretPut(put))?;
     Waiting::with(alloc, before, &step)

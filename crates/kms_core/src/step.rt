@@ -22,8 +22,7 @@ pub struct Asked {
 /// Why an operation has no answer. Nothing has changed.
 #[derive(Clone, Copy, Debug, PartialEq, Eq)]
 pub enum AskFault {
-    /// Out of memory. So is an engine over a store that is given what no record has room for: a name of more than
-    /// 255 bytes.
+    /// out of memory
     NoMemory,
 }
 

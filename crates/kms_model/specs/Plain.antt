@@ -1,5 +1,5 @@
 -- What the plain program keeps stands for a state.
-use Rattle.std.specs.Prelude.{ℕ, ◌<◌, ◌≤◌, ◌^◌, []}
+use Rattle.std.specs.Prelude.{◌<◌, ◌≤◌, ◌^◌, []}
 use Rattle.kms_world.specs.State.{State}
 use Rattle.kms_model.specs.declared.plain.Plain.TheInside.{Inside}
 

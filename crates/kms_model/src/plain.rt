@@ -3,12 +3,12 @@ ghost use Rattle.std.specs.Prelude.{◌≡◌, ◌<◌, ◌^◌, IfOk, OnOk, OnE
 ghost use Rattle.kms_model.specs.Run.{asked_answer, asked_state, answers_of, state_of, unmarked};
 ghost use Rattle.kms_world.specs.State.{empty_state};
 ghost use Rattle.kms_model.specs.Ask.{answer_to, state_after};
-ghost use Rattle.kms_model.specs.AskSecret.{is_secret, is_live, posted_answer, posted_state, secret_at, found_answer};
+ghost use Rattle.kms_model.specs.AskSecret.{is_secret, is_live, is_short_name, posted_answer, posted_state, secret_at, found_answer};
 
 use crate::event::{Event, Request};
 use kms_world::{
-    Answer, Caller, Id, Link, NoMemory, Op, Pairs, Refusal, SecretBody, SecretKind, SecretRow,
-    id_of,
+    Answer, Caller, Field, Id, Link, NoMemory, Op, Pairs, Refusal, SecretBody, SecretKind,
+    SecretRow, Text, id_of,
 };
 use std::alloc::Global;
 use std::marker::Model;
@@ -86,10 +86,13 @@ impl Plain {
     }
 
     fn post(&mut self, caller: &Caller, body: SecretBody, moment: u64) -> Result<Answer, NoMemory>
-        ensures answer { IfOk result (λ a. a ≡ posted_answer self.old) }
+        ensures answer { IfOk result (λ a. a ≡ posted_answer self.old body) }
         ensures ok { OnOk result (self.new ≡ posted_state self.old caller.now body moment) }
         ensures err { OnErr result (self.new ≡ self.old) }
     {
+        if !is_short_name(&body.name) {
+            return Ok(Answer::Refused(Refusal::BadBody(Field::Name)));
+        }
         if self.ids >= 1 << 62 {
             return Ok(Answer::Refused(Refusal::IdsSpent));
         }
@@ -128,6 +131,16 @@ impl Plain {
             Some(row) => Ok(Answer::Secret(row.attributes(self.alloc)?)),
             None => Ok(Answer::Refused(Refusal::NoObject)),
         }
+    }
+}
+
+// Where there is a name, it has at most 255 bytes.
+fn is_short_name(name: &Option<Text>) -> bool
+    ensures { result ≡ is_short_name name.now }
+{
+    match name {
+        None => true,
+        Some(name) => name.as_str().len() <= 255,
     }
 }
 

@@ -1,6 +1,6 @@
 // The plain key manager on a few requests.
 use crate::Plain;
-use kms_world::{Answer, Caller, Id, Name, NoMemory, Op, Refusal, Roles, SecretBody, Text};
+use kms_world::{Answer, Caller, Field, Id, Name, NoMemory, Op, Refusal, Roles, SecretBody, Text};
 use std::alloc::Global;
 use std::rt::HostRuntime;
 
@@ -23,8 +23,8 @@ fn caller(project: &[u8]) -> Option<Caller> {
     })
 }
 
-fn post(alloc: Global, plain: &mut Plain, caller: &Caller) -> Result<Answer, NoMemory> {
-    let name = Some(Text::of(alloc, "a")?);
+fn post(alloc: Global, plain: &mut Plain, caller: &Caller, name: &str) -> Result<Answer, NoMemory> {
+    let name = Some(Text::of(alloc, name)?);
     let op = Op::PostSecret {
         body: Ok(SecretBody { name }),
     };
@@ -40,7 +40,7 @@ fn a_secret_is_seen_by_its_project_alone(rt: HostRuntime) {
     let mut plain = Plain::empty(rt.alloc(), TAG);
     let ours = caller(b"p1").expect(&rt, "a name");
     let theirs = caller(b"p2").expect(&rt, "a name");
-    let posted = post(rt.alloc(), &mut plain, &ours);
+    let posted = post(rt.alloc(), &mut plain, &ours, "a");
     assert!(rt;
         matches!(
             &posted,
@@ -57,4 +57,17 @@ fn a_secret_is_seen_by_its_project_alone(rt: HostRuntime) {
     assert!(rt; matches!(&hidden, Ok(Answer::Refused(Refusal::NoObject))));
     let absent = get(&mut plain, &ours, FIRST + 1);
     assert!(rt; matches!(&absent, Ok(Answer::Refused(Refusal::NoObject))));
+}
+
+#[test]
+fn a_name_has_at_most_255_bytes(rt: HostRuntime) {
+    let mut plain = Plain::empty(rt.alloc(), TAG);
+    let ours = caller(b"p1").expect(&rt, "a name");
+    let bytes = [b'a'; 256];
+    let long = std::str::from_utf8(&bytes).expect(&rt, "a text");
+    let refused = post(rt.alloc(), &mut plain, &ours, long);
+    assert!(rt; matches!(&refused, Ok(Answer::Refused(Refusal::BadBody(Field::Name)))));
+    let short = std::str::from_utf8(&bytes[..255]).expect(&rt, "a text");
+    let posted = post(rt.alloc(), &mut plain, &ours, short);
+    assert!(rt; matches!(&posted, Ok(Answer::Link { status: 201, .. })));
 }
