@@ -11,6 +11,8 @@ mod spelling;
 mod start;
 mod start_fault;
 mod step;
+#[cfg(test)]
+mod tests;
 mod waiting;
 
 pub use engine::Engine;

@@ -48,8 +48,7 @@ impl Engine {
         }
     }
 
-    /// Opens the attached store, and reads its records once, in their order: the engine has the state for which they
-    /// stand. Time and memory are in proportion to the store's current file.
+    /// Opens the attached store, and reads its records in their order: the engine has the state for which they stand.
     ///
     /// Answers NoStore exactly where there is none, and Damaged with the first place at which the store is damaged, where
     /// it is. Whatever it answers, and wherever it stops, the store stands for what it did.
