@@ -5,15 +5,17 @@ use Rattle.kms_host.specs.Moment.{AtEach}
 use Rattle.kms_host.specs.declared.call.Call.{Call}
 use Rattle.kms_host.specs.declared.call.Call.TheVariants.{Text, Attached, Took, Gave, Shut, OnFile, Told, Drew}
 use Rattle.kms_host.proofs.Moments.{at_moment}
-use Rattle.kms_world.specs.State.{State}
 use Rattle.kms_model.specs.declared.event.Mark.{Mark}
 use Rattle.kms_http.specs.Stream.{after}
 use Rattle.kms_http.specs.Stream.After.{Going, Over, Broken}
+use Rattle.kms_serve.specs.Base.{Base}
 use Rattle.kms_serve.specs.Events.{events, most}
 use Rattle.kms_serve.specs.Answered.{Answered}
 use Rattle.kms_serve.specs.Ends.{AllGiven, EndsClean, EndsInside, EndsUnreadable, EndsFailed}
 use Rattle.kms_serve.specs.Owing.{EndedAt}
-use Rattle.kms_serve.specs.Theorem.{Carries}
+use Rattle.kms_serve.specs.Replies.{replies, due}
+use Rattle.kms_serve.specs.StoreCalls.{store_failed}
+use Rattle.kms_serve.specs.Theorem.{Serves}
 use Rattle.kms_serve.specs.declared.status.Status.{Status}
 use Rattle.kms_serve.specs.declared.status.Status.TheVariants as status
 use Rattle.kms_serve.proofs.EventLaws.{after-bad}
@@ -50,75 +52,91 @@ clean_broken calls (inl clean) b = going_broken [] (sym clean.1 ∙ b)
 clean_broken calls (inr over) b = over_broken (sym over ∙ b)
 
 -- behind a failed call not all was given, or the line went on
-failed_goes : (endpoint : List ℕ) (first : State) (marks : List Mark) (calls : List Call) → AtEach (Answered endpoint first marks) calls → EndsFailed 0 calls
-    → AllGiven endpoint first marks calls → (rest : List ℕ) × (after most (length (events calls)) (taken 0 calls) ≡ Some (Going rest))
-failed_goes endpoint first marks [] each fails given = absurd fails
-failed_goes endpoint first marks (Took l room (Some bytes) ∷ calls) each fails given = absurd fails
-failed_goes endpoint first marks (Took l room None ∷ calls) each fails given =
+failed_goes : (endpoint : List ℕ) (b : Base) (marks : List Mark) (calls : List Call) → AtEach (Answered endpoint b marks) calls → EndsFailed 0 calls
+    → store_failed calls ≡ false → AllGiven endpoint b marks calls → (rest : List ℕ) × (after most (length (events calls)) (taken 0 calls) ≡ Some (Going rest))
+failed_goes endpoint b marks [] each fails sound given = absurd fails
+failed_goes endpoint b marks (Took l room (Some bytes) ∷ calls) each fails sound given = absurd fails
+failed_goes endpoint b marks (Took l room None ∷ calls) each fails sound given =
     let ready = each.0.in_turn in (ready.rest, ready.goes_on)
-failed_goes endpoint first marks (Gave l piece (Some n) ∷ calls) each fails given = absurd fails
-failed_goes endpoint first marks (Gave l piece None ∷ calls) each fails given =
+failed_goes endpoint b marks (Gave l piece (Some n) ∷ calls) each fails sound given = absurd fails
+failed_goes endpoint b marks (Gave l piece None ∷ calls) each fails sound given =
     let next = each.0.in_turn in
-    let long = ap length (given l ∙ next.next) in
+    let all : due l endpoint b.first (events calls) marks (store_failed calls) ≡ replies l endpoint b.first (events calls) marks = ap (λ f. due l endpoint b.first (events calls) marks f) sound in
+    let long = ap length (given l ∙ sym all ∙ next.next) in
     absurd (omega (arith, next.some, long, length-append (sent l calls) (piece ++ next.rest), length-append piece next.rest))
-failed_goes endpoint first marks (Shut l ∷ calls) each fails given = absurd fails
-failed_goes endpoint first marks (Text name room bytes ∷ calls) each fails given = absurd fails
-failed_goes endpoint first marks (Attached name done ∷ calls) each fails given = absurd fails
-failed_goes endpoint first marks (OnFile file c ∷ calls) each fails given = absurd fails
-failed_goes endpoint first marks (Told t ∷ calls) each fails given = absurd fails
-failed_goes endpoint first marks (Drew purpose bytes ∷ calls) each fails given = absurd fails
+failed_goes endpoint b marks (Shut l ∷ calls) each fails sound given = absurd fails
+failed_goes endpoint b marks (Text name room bytes ∷ calls) each fails sound given = absurd fails
+failed_goes endpoint b marks (Attached name done ∷ calls) each fails sound given = absurd fails
+failed_goes endpoint b marks (OnFile file c ∷ calls) each fails sound given = absurd fails
+failed_goes endpoint b marks (Told t ∷ calls) each fails sound given = absurd fails
+failed_goes endpoint b marks (Drew purpose bytes ∷ calls) each fails sound given = absurd fails
 
-failed_clean : (endpoint : List ℕ) (first : State) (marks : List Mark) (calls : List Call) → AtEach (Answered endpoint first marks) calls → EndsFailed 0 calls
-    → at_end 0 calls ≡ false → AllGiven endpoint first marks calls → EndsClean calls → ⊥
-failed_clean endpoint first marks calls each fails unended given (inl clean) = true_false (sym clean.0 ∙ unended)
-failed_clean endpoint first marks calls each fails unended given (inr over) =
-    let goes = failed_goes endpoint first marks calls each fails given in going_over goes.0 (sym goes.1 ∙ over)
+failed_clean : (endpoint : List ℕ) (b : Base) (marks : List Mark) (calls : List Call) → AtEach (Answered endpoint b marks) calls → EndsFailed 0 calls
+    → at_end 0 calls ≡ false → store_failed calls ≡ false → AllGiven endpoint b marks calls → EndsClean calls → ⊥
+failed_clean endpoint b marks calls each fails unended sound given (inl clean) = true_false (sym clean.0 ∙ unended)
+failed_clean endpoint b marks calls each fails unended sound given (inr over) =
+    let goes = failed_goes endpoint b marks calls each fails sound given in going_over goes.0 (sym goes.1 ∙ over)
 
-done : (endpoint : List ℕ) (first : State) (s : Status) (calls : List Call) (e : EndedAt endpoint first s calls) → EndsClean calls
-    → AllGiven endpoint first e.marks calls → (s ≡ status.Done) ⊎ (s ≡ status.NoMemory)
-done endpoint first status.Done calls e clean given = inl refl
-done endpoint first status.NoMemory calls e clean given = inr refl
-done endpoint first status.LinkFault calls e clean given = absurd (failed_clean endpoint first e.marks calls e.each e.end.0 e.end.1 given clean)
-done endpoint first status.Words calls e clean given = absurd e.end
-done endpoint first (status.Rest place) calls e clean given = absurd (clean_inside place calls clean e.end.1)
-done endpoint first (status.Unreadable place) calls e clean given = absurd (clean_broken calls clean (broken place calls e.end.1))
+done : (endpoint : List ℕ) (b : Base) (s : Status) (calls : List Call) (e : EndedAt endpoint b s calls) → EndsClean calls
+    → AllGiven endpoint b e.marks calls → store_failed calls ≡ false → (s ≡ status.Done) ⊎ (s ≡ status.NoMemory)
+done endpoint b status.Done calls e clean given sound = inl refl
+done endpoint b status.NoMemory calls e clean given sound = inr refl
+done endpoint b status.LinkFault calls e clean given sound = absurd (failed_clean endpoint b e.marks calls e.each e.end.0 e.end.2 sound given clean)
+done endpoint b status.StoreFault calls e clean given sound = absurd (true_false (sym e.end.0.failed ∙ sound))
+done endpoint b status.Words calls e clean given sound = absurd e.end
+done endpoint b status.NoStore calls e clean given sound = absurd e.end
+done endpoint b status.StoreExists calls e clean given sound = absurd e.end
+done endpoint b status.DrawFault calls e clean given sound = absurd e.end
+done endpoint b (status.Damaged place) calls e clean given sound = absurd e.end
+done endpoint b (status.Rest place) calls e clean given sound = absurd (clean_inside place calls clean e.end.2)
+done endpoint b (status.Unreadable place) calls e clean given sound = absurd (clean_broken calls clean (broken place calls e.end.2))
 
-rest : (endpoint : List ℕ) (first : State) (s : Status) (calls : List Call) → EndedAt endpoint first s calls → (place : ℕ) → EndsInside place calls → s ≡ status.Rest place
-rest endpoint first status.Done calls e place i = absurd (clean_inside place calls e.end.1 i)
-rest endpoint first status.NoMemory calls e place i = absurd (true_false (sym i.ended ∙ e.end))
-rest endpoint first status.LinkFault calls e place i = absurd (true_false (sym i.ended ∙ e.end.1))
-rest endpoint first status.Words calls e place i = absurd e.end
-rest endpoint first (status.Rest other) calls e place i =
-    let same : length e.end.1.rest ≡ length i.rest = ap length (going_same e.end.1.rest i.rest (sym e.end.1.held ∙ i.held)) in
-    let places : other ≡ place = omega (arith, e.end.1.at, i.at, same) in
+rest : (endpoint : List ℕ) (b : Base) (s : Status) (calls : List Call) → EndedAt endpoint b s calls → (place : ℕ) → EndsInside place calls → s ≡ status.Rest place
+rest endpoint b status.Done calls e place i = absurd (clean_inside place calls e.end.2 i)
+rest endpoint b status.NoMemory calls e place i = absurd (true_false (sym i.ended ∙ e.end.0))
+rest endpoint b status.LinkFault calls e place i = absurd (true_false (sym i.ended ∙ e.end.2))
+rest endpoint b status.StoreFault calls e place i = absurd (true_false (sym i.ended ∙ e.end.1))
+rest endpoint b status.Words calls e place i = absurd e.end
+rest endpoint b status.NoStore calls e place i = absurd e.end
+rest endpoint b status.StoreExists calls e place i = absurd e.end
+rest endpoint b status.DrawFault calls e place i = absurd e.end
+rest endpoint b (status.Damaged other) calls e place i = absurd e.end
+rest endpoint b (status.Rest other) calls e place i =
+    let same : length e.end.2.rest ≡ length i.rest = ap length (going_same e.end.2.rest i.rest (sym e.end.2.held ∙ i.held)) in
+    let places : other ≡ place = omega (arith, e.end.2.at, i.at, same) in
     ap status.Rest places
-rest endpoint first (status.Unreadable other) calls e place i = absurd (going_broken i.rest (sym i.held ∙ broken other calls e.end.1))
+rest endpoint b (status.Unreadable other) calls e place i = absurd (going_broken i.rest (sym i.held ∙ broken other calls e.end.2))
 
-unreadable : (endpoint : List ℕ) (first : State) (s : Status) (calls : List Call) (e : EndedAt endpoint first s calls) → (place : ℕ) → EndsUnreadable place calls
-    → AllGiven endpoint first e.marks calls → (s ≡ status.Unreadable place) ⊎ (s ≡ status.NoMemory)
-unreadable endpoint first status.Done calls e place u given = absurd (clean_broken calls e.end.1 (broken place calls u))
-unreadable endpoint first status.NoMemory calls e place u given = inr refl
-unreadable endpoint first status.LinkFault calls e place u given =
-    let goes = failed_goes endpoint first e.marks calls e.each e.end.0 given in absurd (going_broken goes.0 (sym goes.1 ∙ broken place calls u))
-unreadable endpoint first status.Words calls e place u given = absurd e.end
-unreadable endpoint first (status.Rest other) calls e place u given = absurd (going_broken e.end.1.rest (sym e.end.1.held ∙ broken place calls u))
-unreadable endpoint first (status.Unreadable other) calls e place u given =
-    let v = e.end.1 in
+unreadable : (endpoint : List ℕ) (b : Base) (s : Status) (calls : List Call) (e : EndedAt endpoint b s calls) → (place : ℕ) → EndsUnreadable place calls
+    → AllGiven endpoint b e.marks calls → store_failed calls ≡ false → (s ≡ status.Unreadable place) ⊎ (s ≡ status.NoMemory)
+unreadable endpoint b status.Done calls e place u given sound = absurd (clean_broken calls e.end.2 (broken place calls u))
+unreadable endpoint b status.NoMemory calls e place u given sound = inr refl
+unreadable endpoint b status.LinkFault calls e place u given sound =
+    let goes = failed_goes endpoint b e.marks calls e.each e.end.0 sound given in absurd (going_broken goes.0 (sym goes.1 ∙ broken place calls u))
+unreadable endpoint b status.StoreFault calls e place u given sound = absurd (true_false (sym e.end.0.failed ∙ sound))
+unreadable endpoint b status.Words calls e place u given sound = absurd e.end
+unreadable endpoint b status.NoStore calls e place u given sound = absurd e.end
+unreadable endpoint b status.StoreExists calls e place u given sound = absurd e.end
+unreadable endpoint b status.DrawFault calls e place u given sound = absurd e.end
+unreadable endpoint b (status.Damaged other) calls e place u given sound = absurd e.end
+unreadable endpoint b (status.Rest other) calls e place u given sound = absurd (going_broken e.end.2.rest (sym e.end.2.held ∙ broken place calls u))
+unreadable endpoint b (status.Unreadable other) calls e place u given sound =
+    let v = e.end.2 in
     let count : v.before ≡ u.before = omega (arith, v.last, u.last) in
     let same : length v.rest ≡ length u.rest = ap length (going_same v.rest u.rest (sym v.held ∙ ap (λ n. after most n (taken 0 calls)) count ∙ u.held)) in
     let places : other ≡ place = omega (arith, v.at, u.at, same) in
     inl (ap status.Unreadable places)
 
 -- from what holds after each call to what holds at each moment by its number
-pub carries : (endpoint : List ℕ) (first : State) (s : Status) (calls : List Call) → EndedAt endpoint first s calls → Carries endpoint first s calls
-carries endpoint first s calls e = record {
+pub serves : (endpoint : List ℕ) (b : Base) (s : Status) (calls : List Call) → EndedAt endpoint b s calls → Serves endpoint b s calls
+serves endpoint b s calls e = record {
   marks = e.marks;
-  each = at_moment (Answered endpoint first e.marks) calls e.each;
+  each = at_moment (Answered endpoint b e.marks) calls e.each;
   marked = e.marked;
   end = e.end;
   exact = record {
-    done = done endpoint first s calls e;
-    rest = rest endpoint first s calls e;
-    unreadable = unreadable endpoint first s calls e;
+    done = done endpoint b s calls e;
+    rest = rest endpoint b s calls e;
+    unreadable = unreadable endpoint b s calls e;
   };
 }

@@ -1,5 +1,5 @@
 -- A message is answered: from what holds before it to what holds when its reply is owed.
-use Rattle.std.proofs.Common.{◌≡◌, ℕ, ◌+◌, List, [], length, Bool, true, false, Option, Some, nat_eq, sym, ap, ◌∙◌, subst}
+use Rattle.std.proofs.Common.{◌≡◌, ℕ, ◌+◌, List, length, Bool, true, false, Option, Some, nat_eq, sym, ap, ◌∙◌, subst}
 use Rattle.std.specs.Prelude.{◌||◌}
 use Rattle.kms_host.specs.History.{History, Tells, then_call}
 use Rattle.kms_host.specs.Moment.{Since}
@@ -7,62 +7,84 @@ use Rattle.kms_host.specs.Line.{taken}
 use Rattle.kms_host.specs.declared.call.Call.TheVariants.{Shut}
 use Rattle.kms_host.specs.declared.call.Failed.{Failed}
 use Rattle.kms_host.proofs.Moments.{since_since, since_since_call}
-use Rattle.kms_world.specs.State.{State}
+use Rattle.kms_core.specs.Steps.{Held}
 use Rattle.kms_http.specs.declared.request.Request.{Request}
-use Rattle.kms_http.specs.Stream.{front, served, after}
+use Rattle.kms_http.specs.Stream.{front, Served, served, after}
 use Rattle.kms_http.specs.Stream.Front.{Whole, Bad}
 use Rattle.kms_http.specs.Stream.After.{Going, Over}
 use Rattle.kms_http.specs.Stream.Served.{Asking, Unreadable}
 use Rattle.kms_serve.specs.Events.{most}
-use Rattle.kms_serve.specs.Owed.{Prepares, Gives}
+use Rattle.kms_serve.specs.Base.{base, FromStore}
+use Rattle.kms_serve.specs.Owed.{Prepares, Gives, GivesFault, owed_bytes, is_fault}
 use Rattle.kms_serve.specs.Owing.{OwingAt, GoodAt, EndedAt}
-use Rattle.kms_serve.specs.Turns.{Good, Owing}
+use Rattle.kms_serve.specs.Turns.{Good, HasEnded, Owing}
+use Rattle.kms_serve.specs.declared.owed.Owed.{Owed}
 use Rattle.kms_serve.specs.declared.serving.Serving.{Serving}
 use Rattle.kms_serve.specs.declared.status.Status.TheVariants as status
 use Rattle.kms_serve.proofs.EventLaws.{stand, after-next}
-use Rattle.kms_serve.proofs.OwingLaws.{done, owing_prepared, owing_given, ended_over, RefusingAt, refusing_prepared}
+use Rattle.kms_serve.proofs.OwingLaws.{done, owing_prepared, owing_given, ended_over, ended_faulted, FaultingAt, faulting_prepared, RefusingAt, refusing_prepared}
 
-pub since_answered : {a b d : Option History} (endpoint : List ℕ) (first : State) (s t : Serving) (q : Request) (close last : Bool) (reply : List ℕ)
+-- Of a store that stood for no state when the run began nothing is said here.
+
+pub since_answered : {a d c : Option History} (endpoint store : List ℕ) (s t : Serving) (q : Request) (close last : Bool) (owed : Owed)
     → front s.reader.held ≡ Whole q close t.reader.held
     → t.reader.passed + length t.reader.held ≡ s.reader.passed + length s.reader.held
     → t.count ≡ s.count + 1
     → last ≡ (close || nat_eq (s.count + 1) most)
-    → Good endpoint first a b s
-    → Since b d (λ was calls. Prepares endpoint s.engine.state t.engine.state (Asking q close) s.count reply calls)
-    → Owing endpoint first a d t (stand last t.reader.held) reply
-since_answered endpoint first s t q close last reply whole place count is_last good prepared =
-    since_since (λ was calls. OwingAt endpoint first t (stand last t.reader.held) reply calls) good prepared
-    (λ was x y h p.
-    let here = ap (λ n. after most n (taken 0 x)) count ∙ after-next s.count (taken 0 x) s.reader.held t.reader.held q close h.held whole in
-    let held = subst (λ (b : Bool). after most t.count (taken 0 x) ≡ Some (stand b t.reader.held)) (sym is_last) here in
-    owing_prepared endpoint first s t (stand last t.reader.held) reply (Asking q close) x y (ap served whole) count place held h p)
+    → is_fault owed ≡ false
+    → Good endpoint store a d s
+    → Since d c (λ was calls. Prepares endpoint s.engine t.engine (Asking q close) s.count owed was calls)
+    → Owing endpoint store a c t (stand last t.reader.held) (owed_bytes owed)
+since_answered endpoint store s t q close last owed whole place count is_last well good prepared =
+    since_since (λ was calls. FromStore store was (λ b. OwingAt endpoint b t (stand last t.reader.held) (owed_bytes owed) calls)) good prepared
+    (λ was x y h p first steps stands.
+    let o = h first steps stands in
+    let here = ap (λ n. after most n (taken 0 x)) count ∙ after-next s.count (taken 0 x) s.reader.held t.reader.held q close o.held whole in
+    let held = subst (λ (l : Bool). after most t.count (taken 0 x) ≡ Some (stand l t.reader.held)) (sym is_last) here in
+    owing_prepared endpoint _ s t (stand last t.reader.held) owed (Asking q close) x y (ap served whole) count place held well o p)
 
-pub since_refused : {a b d : Option History} (endpoint : List ℕ) (first : State) (s t : Serving) (reply : List ℕ)
+pub since_refused : {a d c : Option History} (endpoint store : List ℕ) (s t : Serving) (owed : Owed)
     → front s.reader.held ≡ Bad
     → t.count ≡ s.count + 1
     → t.reader ≡ s.reader
-    → Good endpoint first a b s
-    → Since b d (λ was calls. Prepares endpoint s.engine.state t.engine.state Unreadable s.count reply calls)
-    → Since a d (λ was calls. RefusingAt endpoint first t s.reader.passed reply calls)
-since_refused endpoint first s t reply bad count reader good prepared =
-    since_since (λ was calls. RefusingAt endpoint first t s.reader.passed reply calls) good prepared
-    (λ was x y h p. refusing_prepared endpoint first s t reply x y bad count reader h p)
+    → is_fault owed ≡ false
+    → Good endpoint store a d s
+    → Since d c (λ was calls. Prepares endpoint s.engine t.engine Unreadable s.count owed was calls)
+    → Since a c (λ was calls. FromStore store was (λ b. RefusingAt endpoint b t s.reader.passed (owed_bytes owed) calls))
+since_refused endpoint store s t owed bad count reader well good prepared =
+    since_since (λ was calls. FromStore store was (λ b. RefusingAt endpoint b t s.reader.passed (owed_bytes owed) calls)) good prepared
+    (λ was x y h p first steps stands. refusing_prepared endpoint _ s t owed x y bad count reader well (h first steps stands) p)
+
+-- the store failed, and its fault is given as far as it goes
+pub since_faulted : {a d c e : Option History} (endpoint store : List ℕ) (s : Serving) (then : Held) (sv : Served) (owed : Owed)
+    → served (front s.reader.held) ≡ Some sv
+    → is_fault owed ≡ true
+    → Good endpoint store a d s
+    → Since d c (λ was calls. Prepares endpoint s.engine then sv s.count owed was calls)
+    → Since c e (λ was calls. GivesFault (owed_bytes owed) calls)
+    → HasEnded endpoint store a e status.StoreFault
+since_faulted endpoint store s then sv owed is fault good prepared given =
+    since_since (λ was calls. FromStore store was (λ b. EndedAt endpoint b status.StoreFault calls))
+    (since_since (λ was calls. FromStore store was (λ b. FaultingAt endpoint b (owed_bytes owed) calls)) good prepared
+    (λ was x y h p first steps stands. faulting_prepared endpoint _ s then owed sv x y is fault (h first steps stands) p))
+    given
+    (λ was x y h g first steps stands. ended_faulted endpoint _ (owed_bytes owed) x y (h first steps stands) g)
 
 -- what is owed is given, and the line goes on
-pub since_given : {a b d : Option History} (endpoint : List ℕ) (first : State) (s : Serving) (last : Bool) (rest reply : List ℕ) → last ≡ false → rest ≡ s.reader.held
-    → Owing endpoint first a b s (stand last rest) reply → Since b d (λ was calls. Gives 0 reply (done Failed) calls)
-    → Good endpoint first a d s
-since_given endpoint first s last rest reply not_last held owing given =
-    let going : stand last rest ≡ Going s.reader.held = ap (λ b. stand b rest) not_last ∙ ap Going held in
-    since_since (λ was calls. GoodAt endpoint first s calls) owing given
-    (λ was x y h g. owing_given Failed endpoint first s (Going s.reader.held) reply x y (subst (λ z. OwingAt endpoint first s z reply x) going h) g)
+pub since_given : {a d c : Option History} (endpoint store : List ℕ) (s : Serving) (last : Bool) (rest reply : List ℕ) → last ≡ false → rest ≡ s.reader.held
+    → Owing endpoint store a d s (stand last rest) reply → Since d c (λ was calls. Gives 0 reply (done Failed) calls)
+    → Good endpoint store a c s
+since_given endpoint store s last rest reply not_last held owing given =
+    let going : stand last rest ≡ Going s.reader.held = ap (λ l. stand l rest) not_last ∙ ap Going held in
+    since_since (λ was calls. FromStore store was (λ b. GoodAt endpoint b s calls)) owing given
+    (λ was x y h g first steps stands. owing_given Failed endpoint _ s (Going s.reader.held) reply x y (subst (λ z. OwingAt endpoint (base store was first steps) s z reply x) going (h first steps stands)) g)
 
 -- what is owed is given, and the line is over
-pub since_over : {a b d e : Option History} (endpoint : List ℕ) (first : State) (s : Serving) (last : Bool) (rest reply : List ℕ) → last ≡ true
-    → Owing endpoint first a b s (stand last rest) reply → Since b d (λ was calls. Gives 0 reply (done Failed) calls)
-    → Tells d e (λ was now. now ≡ then_call was (Shut 0))
-    → Since a e (λ was calls. EndedAt endpoint first status.Done calls)
-since_over endpoint first s last rest reply is_last owing given shut =
-    let over : stand last rest ≡ Over = ap (λ b. stand b rest) is_last in
-    since_since_call (λ was calls. EndedAt endpoint first status.Done calls) owing given shut
-    (λ was x y h g. ended_over endpoint first s _ (owing_given Failed endpoint first s Over reply x y (subst (λ z. OwingAt endpoint first s z reply x) over h) g))
+pub since_over : {a d c e : Option History} (endpoint store : List ℕ) (s : Serving) (last : Bool) (rest reply : List ℕ) → last ≡ true
+    → Owing endpoint store a d s (stand last rest) reply → Since d c (λ was calls. Gives 0 reply (done Failed) calls)
+    → Tells c e (λ was now. now ≡ then_call was (Shut 0))
+    → HasEnded endpoint store a e status.Done
+since_over endpoint store s last rest reply is_last owing given shut =
+    let over : stand last rest ≡ Over = ap (λ l. stand l rest) is_last in
+    since_since_call (λ was calls. FromStore store was (λ b. EndedAt endpoint b status.Done calls)) owing given shut
+    (λ was x y h g first steps stands. ended_over endpoint _ s _ (owing_given Failed endpoint _ s Over reply x y (subst (λ z. OwingAt endpoint (base store was first steps) s z reply x) over (h first steps stands)) g))

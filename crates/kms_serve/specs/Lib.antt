@@ -1,10 +1,15 @@
 pub mod Answered
+pub mod Base
+pub mod Crash
 pub mod Ends
 pub mod Events
+pub mod Init
+pub mod Opening
 pub mod Owed
 pub mod Owing
 pub mod Replies
 pub mod Status
+pub mod StoreCalls
 pub mod Theorem
 pub mod Turns
 pub mod Words

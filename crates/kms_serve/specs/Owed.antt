@@ -1,32 +1,75 @@
 -- What preparing a reply and giving bytes did.
-use Rattle.std.specs.Prelude.{◌≡◌, ℕ, ◌<◌, List, [], ◌∷◌, ◌++◌, length, false, Result, OnOk, OnErr}
+use Rattle.std.specs.Prelude.{◌≡◌, ◌⊎◌, ℕ, ◌+◌, ◌<◌, List, [], ◌∷◌, ◌++◌, length, Bool, true, false, Option, Some, IfSome, Result, OnOk, OnErr}
+use Rattle.kms_host.specs.History.{History, then_call}
+use Rattle.kms_host.specs.Moment.{AtEach, then_calls}
 use Rattle.kms_host.specs.Line.{sent, failed_on}
 use Rattle.kms_host.specs.declared.call.Call.{Call}
 use Rattle.kms_host.specs.declared.call.Call.TheVariants.{Text, Attached, Took, Gave, Shut, OnFile, Told, Drew}
-use Rattle.kms_world.specs.State.{State}
-use Rattle.kms_model.specs.Run.{answer_at, state_at}
+use Rattle.kms_journal.specs.Device.{IsQuietStore}
+use Rattle.kms_core.specs.Settling.{IsSettledOrAll}
+use Rattle.kms_core.specs.Steps.{Held, IsSettled}
+use Rattle.kms_core.specs.Waiting.{Spelled, IsAhead, count_of, with_waiting}
+use Rattle.kms_model.specs.Run.{answer_at, state_at, stores_at, steps_if}
 use Rattle.kms_model.specs.declared.event.Mark.{Mark}
 use Rattle.kms_http.specs.Stream.{Served}
 use Rattle.kms_http.specs.Reply.{fault_reply_of}
-use Rattle.kms_http.specs.declared.fault.FaultReply.TheVariants.{F3}
-use Rattle.kms_serve.specs.Events.{event}
+use Rattle.kms_http.specs.declared.fault.FaultReply.TheVariants.{F1, F3}
+use Rattle.kms_serve.specs.Events.{LineEvent, event}
 use Rattle.kms_serve.specs.Replies.{asked, reply_to}
 use Rattle.kms_serve.specs.Ends.{EndsFailed}
+use Rattle.kms_serve.specs.StoreCalls.{store_failed, OnlyFiles}
 use Rattle.kms_serve.specs.declared.owed.Owed.{Owed}
-use Rattle.kms_serve.specs.declared.owed.Owed.TheVariants.{Reply, OutOfMemory}
+use Rattle.kms_serve.specs.declared.owed.Owed.TheVariants.{Reply, OutOfMemory, StoreFault}
 
 -- the bytes of a reply that is prepared
 abbrev pub owed_bytes : Owed → List ℕ
 owed_bytes (Reply bytes) = bytes
 owed_bytes OutOfMemory = fault_reply_of F3
+owed_bytes StoreFault = fault_reply_of F1
 
--- A message was answered, by the plain key manager or as out of memory; its time was told, and no other call was made.
-pub record Prepares (endpoint : List ℕ) (before after : State) (served : Served) (n : ℕ) (reply : List ℕ) (calls : List Call) : Type 0 where
+-- it is the fault of the store
+abbrev pub is_fault : Owed → Bool
+is_fault (Reply bytes) = false
+is_fault OutOfMemory = false
+is_fault StoreFault = true
+
+-- Over a store so many steps wait, and lead from the state before to the one after.
+abbrev pub Waits : (before after : Held) → (steps : ℕ) → Type 0
+Waits before after steps = IfSome before.store (λ store. (waiting : Option Spelled) × (after.store ≡ Some (with_waiting waiting store))
+    × (count_of waiting ≡ steps) × IsAhead waiting before.state after.state)
+
+-- how many steps an event makes
+abbrev pub steps_at : Held → LineEvent → Mark → ℕ
+steps_at before e mark = steps_if (stores_at before.state (asked e) mark)
+
+-- An event was answered, by the plain key manager or as out of memory, and its steps wait.
+pub record Responds (endpoint : List ℕ) (before after : Held) (e : LineEvent) (owed : Owed) : Type 0 where
+  pub mark : Mark
+  pub reply_is : owed_bytes owed ≡ reply_to endpoint e (answer_at before.state (asked e) mark)
+  pub state : after.state ≡ state_at before.state (asked e) mark
+  pub waits : Waits before after (steps_at before e mark)
+
+-- While the steps of an event are settled, from this moment on. Where the store failed in it, no more is known of it.
+pub record Settled (before after : Held) (steps more : ℕ) (failed : Bool) (mid : History) (files : List Call) : Type 0 where
+  pub each : AtEach (λ x. IsSettledOrAll before.state steps after.state more mid (then_calls mid x)) files
+  pub done : failed ≡ false → IsSettled after (steps + more) (then_calls mid files)
+  pub quiet : failed ≡ false → IsQuietStore mid → IsQuietStore (then_calls mid files)
+
+-- A message was answered: its time was told, its steps were settled by calls on files, and no other call was made. Where one
+-- of these failed the fault of the store is owed.
+pub record Prepares (endpoint : List ℕ) (before after : Held) (served : Served) (n : ℕ) (owed : Owed) (was : History) (calls : List Call) : Type 0 where
   pub time : ℕ
   pub mark : Mark
-  pub made : calls ≡ Told time ∷ []
-  pub reply_is : reply ≡ reply_to endpoint (event n time served) (answer_at before (asked (event n time served)) mark)
-  pub state : after ≡ state_at before (asked (event n time served)) mark
+  pub files : List Call
+  pub made : calls ≡ files ++ Told time ∷ []
+  pub only : OnlyFiles files
+  pub idle : steps_at before (event n time served) mark ≡ 0 → files ≡ []
+  pub failed : store_failed files ≡ is_fault owed
+  pub reply_is : is_fault owed ≡ false → owed_bytes owed ≡ reply_to endpoint (event n time served) (answer_at before.state (asked (event n time served)) mark)
+  pub fault_is : is_fault owed ≡ true → owed_bytes owed ≡ fault_reply_of F1
+  pub state : after.state ≡ state_at before.state (asked (event n time served)) mark
+  pub settled : (steps : ℕ) → IsSettled before steps was
+      → Settled before after steps (steps_at before (event n time served) mark) (is_fault owed) (then_call was (Told time)) files
 
 -- this piece, given on the line l, is what is left of the bytes
 pub record IsLeft (line : ℕ) (bytes : List ℕ) (l : ℕ) (piece : List ℕ) (calls : List Call) : Type 0 where
@@ -52,3 +95,8 @@ pub record Gives {E : Type 0} (line : ℕ) (bytes : List ℕ) (result : Result (
   pub only : OnlyLeft line bytes calls
   pub whole : OnOk result ((sent line calls ≡ bytes) × (failed_on line calls ≡ false))
   pub failed : OnErr result (EndsFailed line calls)
+
+-- All of these bytes of a fault were given on line 0, or a front of them, and then a call failed.
+pub record GivesFault (bytes : List ℕ) (calls : List Call) : Type 0 where
+  pub only : OnlyLeft 0 bytes calls
+  pub given : ((sent 0 calls ≡ bytes) × (failed_on 0 calls ≡ false)) ⊎ EndsFailed 0 calls

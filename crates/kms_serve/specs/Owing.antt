@@ -3,14 +3,17 @@ use Rattle.std.specs.Prelude.{◌≡◌, ℕ, ◌+◌, List, [], ◌++◌, ◌==
 use Rattle.kms_host.specs.Moment.{AtEach}
 use Rattle.kms_host.specs.Line.{taken, sent, at_end, failed_on, is_shut}
 use Rattle.kms_host.specs.declared.call.Call.{Call}
-use Rattle.kms_world.specs.State.{State}
+use Rattle.kms_journal.specs.Device.{IsQuietStore}
+use Rattle.kms_core.specs.Steps.{IsSettled}
 use Rattle.kms_model.specs.declared.event.Mark.{Mark}
 use Rattle.kms_http.specs.Stream.{After, after}
 use Rattle.kms_http.specs.Stream.After.{Going}
+use Rattle.kms_serve.specs.Base.{Base, history}
 use Rattle.kms_serve.specs.Events.{events, most}
-use Rattle.kms_serve.specs.Replies.{replies, state_by}
+use Rattle.kms_serve.specs.Replies.{replies, state_by, steps_by}
 use Rattle.kms_serve.specs.Answered.{Answered}
-use Rattle.kms_serve.specs.Ends.{AllGiven, IsEnd}
+use Rattle.kms_serve.specs.Ends.{IsEnd}
+use Rattle.kms_serve.specs.StoreCalls.{store_failed}
 use Rattle.kms_serve.specs.declared.serving.Serving.{Serving}
 use Rattle.kms_serve.specs.declared.status.Status.{Status}
 
@@ -18,28 +21,32 @@ use Rattle.kms_serve.specs.declared.status.Status.{Status}
 abbrev pub on_line : ℕ → List ℕ → List ℕ
 on_line line bytes = if 0 == line then bytes else []
 
--- The theorem holds at each moment so far, and the program's state is that of the plain key manager. The stream stands
--- so behind the messages that were answered, and these bytes of their replies are prepared and not given yet.
-pub record OwingAt (endpoint : List ℕ) (first : State) (s : Serving) (stand : After) (owed : List ℕ) (calls : List Call) : Type 0 where
+-- The theorem holds at each moment so far, the program's state is that of the plain key manager, and so is what the store
+-- stands for. The stream stands so behind the messages that were answered, and these bytes of their replies are prepared
+-- and not given yet.
+pub record OwingAt (endpoint : List ℕ) (b : Base) (s : Serving) (stand : After) (owed : List ℕ) (calls : List Call) : Type 0 where
   pub marks : List Mark
-  pub each : AtEach (Answered endpoint first marks) calls
+  pub each : AtEach (Answered endpoint b marks) calls
   pub marked : length (events calls) ≡ length marks
   pub counted : s.count ≡ length (events calls)
-  pub state : s.engine.state ≡ state_by first (events calls) marks
+  pub state : s.engine.state ≡ state_by b.first (events calls) marks
+  pub settled : IsSettled s.engine (b.steps + steps_by b.first (events calls) marks) (history b calls)
+  pub quiet : IsQuietStore b.was → IsQuietStore (history b calls)
   pub held : after most s.count (taken 0 calls) ≡ Some stand
   pub place : s.reader.passed + length s.reader.held ≡ length (taken 0 calls)
-  pub owes : (line : ℕ) → replies line endpoint first (events calls) marks ≡ sent line calls ++ on_line line owed
+  pub owes : (line : ℕ) → replies line endpoint b.first (events calls) marks ≡ sent line calls ++ on_line line owed
   pub unfinished : at_end 0 calls ≡ false
   pub sound : failed_on 0 calls ≡ false
   pub unshut : is_shut 0 calls ≡ false
+  pub unfailed : store_failed calls ≡ false
 
 -- between two turns nothing is owed, and the line goes on with the bytes that the reader holds
-abbrev pub GoodAt : (endpoint : List ℕ) → State → Serving → List Call → Type 0
-GoodAt endpoint first s calls = OwingAt endpoint first s (Going s.reader.held) [] calls
+abbrev pub GoodAt : (endpoint : List ℕ) → Base → Serving → List Call → Type 0
+GoodAt endpoint b s calls = OwingAt endpoint b s (Going s.reader.held) [] calls
 
 -- after the last turn
-pub record EndedAt (endpoint : List ℕ) (first : State) (s : Status) (calls : List Call) : Type 0 where
+pub record EndedAt (endpoint : List ℕ) (b : Base) (s : Status) (calls : List Call) : Type 0 where
   pub marks : List Mark
-  pub each : AtEach (Answered endpoint first marks) calls
+  pub each : AtEach (Answered endpoint b marks) calls
   pub marked : length (events calls) ≡ length marks
-  pub end : IsEnd s calls (AllGiven endpoint first marks calls)
+  pub end : IsEnd endpoint b marks s calls

@@ -1,4 +1,4 @@
--- The words of the command line: `pipe --store NAME --keys NAME --endpoint TEXT`, in this order.
+-- The words of the command line: `init --store NAME`, or `pipe --store NAME --keys NAME --endpoint TEXT`, in this order.
 use Rattle.std.specs.Prelude.{ℕ, List, [], ◌∷◌, Bool, false, not, ◌&&◌, ◌==◌, Option, Some, None, if◌then◌else◌, codes, map, string_bytes, String}
 use Rattle.std.specs.Str.{bytes_eq}
 use Rattle.std.specs.declared.alloc.Global.{Global}
@@ -8,16 +8,37 @@ abbrev pub is_value : List ℕ → Bool
 is_value [] = false
 is_value (b ∷ bytes) = not (b == 45)
 
+abbrev pub is_init : (command store_word store : List ℕ) → Bool
+is_init command store_word store = bytes_eq command (codes "init") && bytes_eq store_word (codes "--store") && is_value store
+
+-- the name of the store that is to be created, where the words are these
+abbrev pub init_of : List (List ℕ) → Option (List ℕ)
+init_of (a ∷ b ∷ c ∷ []) = if is_init a b c then Some c else None
+init_of _ = None
+
 abbrev pub is_pipe : (command store_word store keys_word keys endpoint_word endpoint : List ℕ) → Bool
 is_pipe command store_word store keys_word keys endpoint_word endpoint =
     bytes_eq command (codes "pipe") && bytes_eq store_word (codes "--store") && is_value store
     && bytes_eq keys_word (codes "--keys") && is_value keys
     && bytes_eq endpoint_word (codes "--endpoint") && is_value endpoint
 
--- the endpoint, where the words are understood
-abbrev pub endpoint_of : List (List ℕ) → Option (List ℕ)
-endpoint_of (a ∷ b ∷ c ∷ d ∷ e ∷ f ∷ g ∷ []) = if is_pipe a b c d e f g then Some g else None
-endpoint_of _ = None
+-- what line 0 is served with: the name of a store, and the text before each link
+pub record Pipe : Type 0 where
+  pub store : List ℕ
+  pub endpoint : List ℕ
+
+-- the same, where the words say so
+abbrev pub pipe_of : List (List ℕ) → Option Pipe
+pipe_of (a ∷ b ∷ c ∷ d ∷ e ∷ f ∷ g ∷ []) = if is_pipe a b c d e f g then Some (record { store = c; endpoint = g }) else None
+pipe_of _ = None
+
+abbrev pub store_of : Option Pipe → Option (List ℕ)
+store_of None = None
+store_of (Some words) = Some words.store
+
+abbrev pub endpoint_of : Option Pipe → Option (List ℕ)
+endpoint_of None = None
+endpoint_of (Some words) = Some words.endpoint
 
 abbrev pub texts : List (String Global) → List (List ℕ)
 texts words = map string_bytes words

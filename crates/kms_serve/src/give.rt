@@ -1,6 +1,6 @@
 // Giving bytes on a line.
 ghost use Rattle.std.specs.Prelude.{◌≡◌};
-ghost use Rattle.kms_host.specs.History.{WhereTold};
+ghost use Rattle.kms_host.specs.History.{WhereTold, Stops};
 ghost use Rattle.kms_host.specs.Line.{IsOpen};
 ghost use Rattle.kms_host.specs.Faults.{HasCause};
 ghost use Rattle.kms_host.specs.Moment.{Since};
@@ -15,6 +15,7 @@ pub fn give_all<H: Host>(host: &mut H, line: u32, bytes: &[u8]) -> Result<(), Fa
     ensures given { Since (H.history host.old) (H.history host.new) (λ was calls. Gives line bytes.now result calls) }
     ensures open { WhereTold (H.history host.new) (IsOpen line) }
     ensures cause { HasCause counts.Link (H.faults host.old) (H.faults host.new) result }
+    ensures stops { Stops (H.wanted host.old) (H.wanted host.new) (H.history host.old) (H.history host.new) }
 {
     let mut rest = bytes;
     while !rest.is_empty() {

@@ -1,8 +1,10 @@
-//! The top call: reads messages from a line, asks the engine, and gives the printed replies.
+//! The top call: creates a store, or opens one, reads messages from a line, asks the engine, settles, and gives the printed replies.
 #![tactic(auto)]
 
 mod give;
+mod init;
 mod line;
+mod open;
 mod owed;
 mod prepare;
 mod program;

@@ -1,19 +1,19 @@
 // Serving a line, in turns.
-ghost use Rattle.std.specs.Prelude.{◌≡◌, ◌≢◌, ◌+◌, ◌*◌, ◌<◌, ◌≤◌, ◌||◌, ◌==◌, ℕ, List, Option, Bool, length, IfOk};
-ghost use Rattle.kms_host.specs.History.{History, WhereTold};
+ghost use Rattle.std.specs.Prelude.{◌≡◌, ◌≢◌, ◌+◌, ◌*◌, ◌<◌, ◌≤◌, ◌||◌, ◌==◌, ℕ, List, Option, Bool, true, length, IfOk};
+ghost use Rattle.kms_host.specs.History.{History, WhereTold, Stops};
+ghost use Rattle.kms_host.specs.Faults.{NeverFalls};
 ghost use Rattle.kms_host.specs.Line.{IsOpen};
 ghost use Rattle.kms_host.specs.Moment.{Since};
 ghost use Rattle.kms_http.specs.Stream.{front, longest};
 ghost use Rattle.kms_http.specs.Stream.Front.{Bad, Part};
 ghost use Rattle.kms_serve.specs.Events.{most};
-ghost use Rattle.kms_serve.specs.Owing.{EndedAt};
-ghost use Rattle.kms_serve.specs.Theorem.{first_state};
-ghost use Rattle.kms_serve.specs.Turns.{Good, Left, IsTaken, IsBounded, GoesOn, HasCauses, fed};
+ghost use Rattle.kms_core.specs.Steps.{IsIdle};
+ghost use Rattle.kms_serve.specs.Owed.{GivesFault, owed_bytes, is_fault};
+ghost use Rattle.kms_serve.specs.Turns.{Good, HasEnded, Left, IsTaken, IsBounded, IsServedEnd, GoesOn, HasCauses, CanServe, serving_of, fed};
 ghost use Rattle.kms_serve.specs.declared.serving.Serving.{Serving as Session};
-ghost use Rattle.kms_world.specs.State.{State};
 
 use crate::give::give_all;
-use crate::owed::owed_slice;
+use crate::owed::{Owed, is_fault, owed_slice};
 use crate::prepare::prepare;
 use crate::serving::{Serving, Turn};
 use crate::status::Status;
@@ -30,20 +30,20 @@ const MOST: u64 = 10_000_000;
 /// How many bytes are taken at once, at most.
 const ROOM: usize = 65536;
 
-// The tag of the ids that are given in memory.
-const TAG: u64 = 0x0012_3456_789a_bcde;
-
 // More bytes of the line, or its end. What the reader holds is the begin of a message, or nothing.
 fn take_more<H: Host>(host: &mut H, s: &mut Serving, room: &mut [u8]) -> Turn
     requires room { length room.old ≡ 65536 }
     requires part { front s.old.reader.held ≡ Part }
     requires bounded { IsBounded s.old }
-    requires open_line { WhereTold (H.history host.old) (IsOpen 0) }
-    ensures good { (endpoint : List ℕ) (start : Option History) (first : State) →
-        Good endpoint first start (H.history host.old) s.old → Left endpoint first start (H.history host.new) s.new result }
-    ensures open_line { result ≡ Turn.Went → WhereTold (H.history host.new) (IsOpen 0) }
+    requires idle { IsIdle s.old.engine }
+    requires ready { WhereTold (H.history host.old) (CanServe s.old.engine) }
+    ensures good { (endpoint store : List ℕ) (start : Option History) →
+        Good endpoint store start (H.history host.old) s.old → Left endpoint store start (H.history host.new) s.new result }
+    ensures idle { result ≡ Turn.Went → IsIdle s.new.engine }
+    ensures ready { result ≡ Turn.Went → WhereTold (H.history host.new) (CanServe s.new.engine) }
     ensures goes { GoesOn s.old s.new result }
     ensures causes { HasCauses (H.faults host.old) (H.faults host.new) result }
+    ensures stops { Stops (H.wanted host.old) (H.wanted host.new) (H.history host.old) (H.history host.new) }
 {
     let Ok(count) = host.take(0, room) else {
         return Turn::Ended(Status::LinkFault);
@@ -70,6 +70,20 @@ fn is_last(count: u64, close: bool) -> bool
     close || count + 1 == MOST
 }
 
+// Gives the fault of the store, as far as it goes.
+fn give_fault<H: Host>(host: &mut H, owed: &Owed) -> Status
+    requires fault { is_fault owed.now ≡ true }
+    requires open_line { WhereTold (H.history host.old) (IsOpen 0) }
+    ensures given { Since (H.history host.old) (H.history host.new) (λ was calls. GivesFault (owed_bytes owed.now) calls) }
+    ensures status { result ≡ Status.StoreFault }
+    ensures later { NeverFalls (H.faults host.old) (H.faults host.new) }
+    ensures stops { Stops (H.wanted host.old) (H.wanted host.new) (H.history host.old) (H.history host.new) }
+{
+    // The run ends so whether the line takes it or not.
+    let _ = give_all(host, 0, owed_slice(owed));
+    Status::StoreFault
+}
+
 // Answers the request that was taken out of the reader.
 fn serve_request<H: Host>(
     alloc: Global,
@@ -82,12 +96,15 @@ fn serve_request<H: Host>(
     requires few { s.old.count < most }
     requires passed { s.old.reader.passed ≤ (s.old.count + 1) * longest }
     requires held { length s.old.reader.held ≤ longest + 65536 }
-    requires open_line { WhereTold (H.history host.old) (IsOpen 0) }
-    ensures good { (start : Option History) (first : State) (before : Session) → IsTaken before s.old request close →
-        Good endpoint.now first start (H.history host.old) before → Left endpoint.now first start (H.history host.new) s.new result }
-    ensures open_line { result ≡ Turn.Went → WhereTold (H.history host.new) (IsOpen 0) }
+    requires idle { IsIdle s.old.engine }
+    requires ready { WhereTold (H.history host.old) (CanServe s.old.engine) }
+    ensures good { (store : List ℕ) (start : Option History) (before : Session) → IsTaken before s.old request close →
+        Good endpoint.now store start (H.history host.old) before → Left endpoint.now store start (H.history host.new) s.new result }
+    ensures idle { result ≡ Turn.Went → IsIdle s.new.engine }
+    ensures ready { result ≡ Turn.Went → WhereTold (H.history host.new) (CanServe s.new.engine) }
     ensures goes { GoesOn s.old s.new result }
     ensures causes { HasCauses (H.faults host.old) (H.faults host.new) result }
+    ensures stops { Stops (H.wanted host.old) (H.wanted host.new) (H.history host.old) (H.history host.new) }
 {
     let last = is_last(s.count, close);
     let Request { caller, op } = request;
@@ -100,6 +117,9 @@ fn serve_request<H: Host>(
         last,
     );
     s.count += 1;
+    if is_fault(&owed) {
+        return Turn::Ended(give_fault(host, &owed));
+    }
     match give_all(host, 0, owed_slice(&owed)) {
         Ok(()) => {}
         Err(_) => return Turn::Ended(Status::LinkFault),
@@ -115,12 +135,14 @@ fn serve_request<H: Host>(
 fn refuse<H: Host>(alloc: Global, endpoint: &str, host: &mut H, s: &mut Serving) -> Turn
     requires bad { front s.old.reader.held ≡ Bad }
     requires few { s.old.count < most }
-    requires open_line { WhereTold (H.history host.old) (IsOpen 0) }
-    ensures good { (start : Option History) (first : State) →
-        Good endpoint.now first start (H.history host.old) s.old → Left endpoint.now first start (H.history host.new) s.new result }
+    requires idle { IsIdle s.old.engine }
+    requires ready { WhereTold (H.history host.old) (CanServe s.old.engine) }
+    ensures good { (store : List ℕ) (start : Option History) →
+        Good endpoint.now store start (H.history host.old) s.old → Left endpoint.now store start (H.history host.new) s.new result }
     ensures ends { result ≢ Turn.Went }
     ensures goes { GoesOn s.old s.new result }
     ensures causes { HasCauses (H.faults host.old) (H.faults host.new) result }
+    ensures stops { Stops (H.wanted host.old) (H.wanted host.new) (H.history host.old) (H.history host.new) }
 {
     let owed = prepare(
         alloc,
@@ -131,6 +153,9 @@ fn refuse<H: Host>(alloc: Global, endpoint: &str, host: &mut H, s: &mut Serving)
         true,
     );
     s.count += 1;
+    if is_fault(&owed) {
+        return Turn::Ended(give_fault(host, &owed));
+    }
     match give_all(host, 0, owed_slice(&owed)) {
         Ok(()) => {}
         Err(_) => return Turn::Ended(Status::LinkFault),
@@ -149,12 +174,15 @@ fn take_turn<H: Host>(
 ) -> Turn
     requires room { length room.old ≡ 65536 }
     requires bounded { IsBounded s.old }
-    requires open_line { WhereTold (H.history host.old) (IsOpen 0) }
-    ensures good { (start : Option History) (first : State) →
-        Good endpoint.now first start (H.history host.old) s.old → Left endpoint.now first start (H.history host.new) s.new result }
-    ensures open_line { result ≡ Turn.Went → WhereTold (H.history host.new) (IsOpen 0) }
+    requires idle { IsIdle s.old.engine }
+    requires ready { WhereTold (H.history host.old) (CanServe s.old.engine) }
+    ensures good { (store : List ℕ) (start : Option History) →
+        Good endpoint.now store start (H.history host.old) s.old → Left endpoint.now store start (H.history host.new) s.new result }
+    ensures idle { result ≡ Turn.Went → IsIdle s.new.engine }
+    ensures ready { result ≡ Turn.Went → WhereTold (H.history host.new) (CanServe s.new.engine) }
     ensures goes { GoesOn s.old s.new result }
     ensures causes { HasCauses (H.faults host.old) (H.faults host.new) result }
+    ensures stops { Stops (H.wanted host.old) (H.wanted host.new) (H.history host.old) (H.history host.new) }
 {
     match s.reader.next() {
         Ok(Read::Message { request, close }) => serve_request(
@@ -178,17 +206,17 @@ fn new_room(alloc: Global) -> Result<Vec<u8>, NoMemory>
     zeros(alloc, ROOM)
 }
 
-/// Serves line 0 from its first byte to its end, beginning with nothing stored.
-pub fn serve_line<H: Host>(alloc: Global, endpoint: &str, host: &mut H) -> Status
-    requires { WhereTold (H.history host.old) (IsOpen 0) }
-    ensures ended { Since (H.history host.old) (H.history host.new) (λ was calls. EndedAt endpoint.now first_state result calls) }
-    ensures words { result ≢ Status.Words }
+/// Serves line 0 from its first byte to its end, over an engine that has a store.
+pub fn serve_line<H: Host>(alloc: Global, endpoint: &str, engine: Engine, host: &mut H) -> Status
+    requires idle { IsIdle engine }
+    requires ready { WhereTold (H.history host.old) (CanServe engine) }
+    ensures ended { (store : List ℕ) (start : Option History) → Good endpoint.now store start (H.history host.old) (serving_of engine)
+        → HasEnded endpoint.now store start (H.history host.new) result }
+    ensures served { IsServedEnd result }
     ensures causes { HasCauses (H.faults host.old) (H.faults host.new) (Turn.Ended result) }
+    ensures stops { Stops (H.wanted host.old) (H.wanted host.new) (H.history host.old) (H.history host.new) }
 {
     let Ok(mut room) = new_room(alloc) else {
-        return Status::NoMemory;
-    };
-    let Ok(engine) = Engine::empty(alloc, TAG) else {
         return Status::NoMemory;
     };
     let mut s = Serving {

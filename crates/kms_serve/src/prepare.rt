@@ -1,17 +1,19 @@
 // Preparing the reply to a message.
-ghost use Rattle.std.specs.Prelude.{◌≡◌, ◌+◌, ◌<◌, ◌==◌, ◌||◌, min, ℕ, IfOk, OnOk, OnErr};
-ghost use Rattle.kms_host.specs.Faults.{NeverFalls};
-ghost use Rattle.kms_host.specs.History.{WhereTold};
+ghost use Rattle.std.specs.Prelude.{◌≡◌, ◌+◌, ◌<◌, ◌==◌, ◌||◌, min, ℕ, true, false, is_some, IfOk, IfSome, OnOk, OnErr};
+ghost use Rattle.kms_host.specs.Faults.{NeverFalls, Rose};
+ghost use Rattle.kms_host.specs.History.{WhereTold, Stops};
 ghost use Rattle.kms_host.specs.Line.{IsOpen};
 ghost use Rattle.kms_host.specs.Moment.{Since};
 ghost use Rattle.kms_http.specs.Reply.{printed};
 ghost use Rattle.kms_http.specs.Stream.{Served, is_last};
-ghost use Rattle.kms_core.specs.Steps.{Prepares as Leads};
+ghost use Rattle.kms_core.specs.Steps.{Prepares as Leads, IsIdle, IsSpelledBehind};
 ghost use Rattle.kms_json.specs.Answer.{reply_of};
-ghost use Rattle.kms_model.specs.Run.{asked_answer, asked_state};
-ghost use Rattle.kms_serve.specs.Events.{most};
-ghost use Rattle.kms_serve.specs.Owed.{Prepares, owed_bytes};
+ghost use Rattle.kms_model.specs.Run.{asked_answer, asked_state, asked_stores, steps_if};
+ghost use Rattle.kms_serve.specs.Events.{LineEvent, most};
+ghost use Rattle.kms_serve.specs.Owed.{Prepares, Responds, Waits, is_fault};
 ghost use Rattle.kms_serve.specs.Replies.{request_of};
+ghost use Rattle.kms_serve.specs.Turns.{CanServe};
+ghost use Rattle.kms_world.specs.State.{State};
 ghost use Rattle.kms_world.specs.Times.{HasTimes};
 
 use crate::owed::Owed;
@@ -39,11 +41,15 @@ fn asked<H: Host>(
     request: Request,
     moment: u64,
 ) -> Result<Asked, NoMemory>
-    requires { moment < 253402300800 }
+    requires moment { moment < 253402300800 }
+    requires idle { IsIdle engine.old }
     ensures answer { IfOk result (λ a. a.answer ≡ asked_answer engine.old.state request moment) }
     ensures step { IfOk result (λ a. Leads a.step engine.old.state (asked_state engine.old.state request moment) engine.new.room) }
+    ensures stores { IfOk result (λ a. is_some a.step ≡ asked_stores engine.old.state request moment) }
+    ensures spelled { IfOk result (λ a. IfSome a.step (IsSpelledBehind engine.old)) }
     ensures times { IfOk result (λ a. HasTimes a.answer) }
     ensures same { engine.new.state ≡ engine.old.state }
+    ensures store { engine.new.store ≡ engine.old.store }
     ensures host { host.new ≡ host.old }
 {
     match request {
@@ -58,6 +64,19 @@ fn asked<H: Host>(
     }
 }
 
+// Takes over the step, where there is one. It waits to be settled.
+fn take_over(engine: &mut Engine, step: Option<Step>)
+    requires leads { (after : State) × Leads step engine.old.state after engine.old.room }
+    requires spelled { IfSome step (IsSpelledBehind engine.old) }
+    requires idle { IsIdle engine.old }
+    ensures state { (after : State) → Leads step engine.old.state after engine.old.room → engine.new.state ≡ after }
+    ensures waits { Waits engine.old engine.new (steps_if (is_some step)) }
+{
+    if let Some(step) = step {
+        engine.accept(step);
+    }
+}
+
 // Asks, prints and accepts. Where it is out of memory nothing has changed.
 fn respond<H: Host>(
     alloc: Global,
@@ -68,23 +87,48 @@ fn respond<H: Host>(
     moment: u64,
     last: bool,
 ) -> Result<Bytes, NoMemory>
-    requires { moment < 253402300800 }
+    requires moment { moment < 253402300800 }
+    requires idle { IsIdle engine.old }
     ensures reply { IfOk result (λ bytes. bytes ≡ printed (reply_of endpoint.now (asked_answer engine.old.state request moment)) moment last) }
     ensures state { OnOk result (engine.new.state ≡ asked_state engine.old.state request moment) }
-    ensures err { OnErr result (engine.new.state ≡ engine.old.state) }
+    ensures waits { OnOk result (Waits engine.old engine.new (steps_if (asked_stores engine.old.state request moment))) }
+    ensures err { OnErr result ((engine.new.state ≡ engine.old.state) × (engine.new.store ≡ engine.old.store)) }
     ensures host { host.new ≡ host.old }
 {
     let Asked { answer, step } = asked(engine, host, request, moment)?;
     let reply = reply_to(alloc, &answer, endpoint)?;
     let bytes = print(alloc, &reply, moment, last)?;
-    if let Some(step) = step {
-        engine.accept(step);
-    }
+    take_over(engine, step);
     Ok(bytes)
 }
 
-/// Prepares the reply to what was read as the message behind `count` others: its time is told, it is asked, printed
-/// and accepted, and it changes nothing where that is out of memory.
+// The reply to what was read as a message, whose steps wait then. It changes nothing where that is out of memory.
+fn reply<H: Host>(
+    alloc: Global,
+    endpoint: &str,
+    engine: &mut Engine,
+    host: &mut H,
+    request: Request,
+    moment: u64,
+    last: bool,
+) -> Owed
+    requires moment { moment < 253402300800 }
+    requires idle { IsIdle engine.old }
+    ensures responds { (e : LineEvent) → request ≡ request_of e.served → e.time ≡ moment → e.last ≡ last
+        → Responds endpoint.now engine.old engine.new e result }
+    ensures waits { (steps : ℕ) × Waits engine.old engine.new steps }
+    ensures no_fault { is_fault result ≡ false }
+    ensures host { host.new ≡ host.old }
+{
+    match respond(alloc, endpoint, engine, host, request, moment, last) {
+        Ok(reply) => Owed::Reply(reply),
+        Err(_) => Owed::OutOfMemory,
+    }
+}
+
+/// Prepares the reply to what was read as the message behind `count` others: its time is told, it is asked, printed,
+/// accepted and settled. It changes nothing where that is out of memory. The fault of the store is owed in the place of
+/// the reply where a call of the store failed.
 pub fn prepare<H: Host>(
     alloc: Global,
     endpoint: &str,
@@ -93,17 +137,23 @@ pub fn prepare<H: Host>(
     request: Request,
     last: bool,
 ) -> Owed
-    requires { WhereTold (H.history host.old) (IsOpen 0) }
+    requires idle { IsIdle engine.old }
+    requires ready { WhereTold (H.history host.old) (CanServe engine.old) }
     ensures prepared { (served : Served) (n : ℕ) → request ≡ request_of served → last ≡ is_last most n served
         → Since (H.history host.old) (H.history host.new) (λ was calls.
-        Prepares endpoint.now engine.old.state engine.new.state served n (owed_bytes result) calls) }
+        Prepares endpoint.now engine.old engine.new served n result was calls) }
     ensures open { WhereTold (H.history host.new) (IsOpen 0) }
+    ensures ready { is_fault result ≡ false → WhereTold (H.history host.new) (CanServe engine.new) }
+    ensures idle { is_fault result ≡ false → IsIdle engine.new }
     ensures later { NeverFalls (H.faults host.old) (H.faults host.new) }
+    ensures cause { is_fault result ≡ true → Rose (H.faults host.old).store (H.faults host.new).store }
+    ensures stops { Stops (H.wanted host.old) (H.wanted host.new) (H.history host.old) (H.history host.new) }
 {
     let told = host.now();
     let moment = capped(told);
-    match respond(alloc, endpoint, engine, host, request, moment, last) {
-        Ok(reply) => Owed::Reply(reply),
-        Err(_) => Owed::OutOfMemory,
+    let owed = reply(alloc, endpoint, engine, host, request, moment, last);
+    match engine.settle(host) {
+        Ok(()) => owed,
+        Err(_) => Owed::StoreFault,
     }
 }

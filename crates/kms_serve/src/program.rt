@@ -1,41 +1,86 @@
 // The top call.
-ghost use Rattle.std.specs.Prelude.{◌≡◌, IsSome};
+ghost use Rattle.std.specs.Prelude.{◌≡◌, ◌⊎◌, IsSome, None, false};
 ghost use Rattle.kms_host.specs.Faults.{NeverFalls, Rose};
-ghost use Rattle.kms_host.specs.History.{WhereTold};
+ghost use Rattle.kms_host.specs.History.{WhereTold, Stops};
 ghost use Rattle.kms_host.specs.Line.{IsOpen};
-ghost use Rattle.kms_serve.specs.Theorem.{Answers, IsEnded};
+ghost use Rattle.kms_host.specs.Store.{is_attached};
+ghost use Rattle.kms_host.specs.Moment.{Since};
+ghost use Rattle.kms_serve.specs.Init.{IsInitStatus};
+ghost use Rattle.kms_serve.specs.Theorem.{Answers, Carries, IsPipeStatus, IsUnfaulted};
 ghost use Rattle.kms_serve.specs.Words as spec;
 
+use crate::init::init_store;
 use crate::line::serve_line;
+use crate::open::open_store;
 use crate::status::Status;
-use crate::words::endpoint_of;
+use crate::words::{endpoint_of, init_of, store_of};
 use kms_host::Host;
 use std::alloc::Global;
 
-/// The program: `pipe --store NAME --keys NAME --endpoint TEXT` answers the requests of line 0 in their order, each as
-/// the plain key manager does, beginning with nothing stored.
-///
-/// Where the host tells its calls, what was sent by each moment is what the plain key manager answers, as far as it
-/// went, and the status says how the line ended. Whether it tells or not, words that are not understood are answered
-/// as such with no call made, and a link fault only where the count of link faults rose.
-pub fn run<H: Host>(alloc: Global, words: &[String], host: &mut H) -> Status
-    // A line that was shut can't be served.
+// Opens a store, and serves line 0 over it.
+fn serve_store<H: Host>(alloc: Global, store: &str, endpoint: &str, host: &mut H) -> Status
+    requires store { WhereTold (H.history host.old) (λ h. is_attached h.calls ≡ false) }
     requires line { WhereTold (H.history host.old) (IsOpen 0) }
-
-    // What was sent by each moment, how the run ended, and that its calls determine how.
-    ensures answers { Answers (spec.endpoint_of (spec.texts words.now)) (H.history host.old) (H.history host.new) result }
-
-    // Words that are not understood, and nothing else, end the run before its first call.
-    ensures words { spec.endpoint_of (spec.texts words.now) ≡ None → host.new ≡ host.old }
-
-    // A link fault is answered only where the count rose; where it did not rise the line is served to its end, or the
-    // run is out of memory.
+    ensures carries { Since (H.history host.old) (H.history host.new) (λ was calls. Carries endpoint.now store.now result was calls) }
+    ensures ends { IsPipeStatus result }
     ensures later { NeverFalls (H.faults host.old) (H.faults host.new) }
     ensures link_fault { result ≡ Status.LinkFault → Rose (H.faults host.old).link (H.faults host.new).link }
-    ensures complete { IsSome (spec.endpoint_of (spec.texts words.now)) → (Rose (H.faults host.old).link (H.faults host.new).link → ⊥) → IsEnded result }
+    ensures store_fault { result ≡ Status.StoreFault → Rose (H.faults host.old).store (H.faults host.new).store }
+    ensures stops { Stops (H.wanted host.old) (H.wanted host.new) (H.history host.old) (H.history host.new) }
 {
-    match endpoint_of(words) {
-        None => Status::Words,
-        Some(endpoint) => serve_line(alloc, endpoint, host),
+    match open_store(alloc, store, host) {
+        Ok(engine) => serve_line(alloc, endpoint, engine, host),
+        Err(status) => status,
+    }
+}
+
+/// The program. `init --store NAME` creates a store with nothing in it, and is refused where there is one. `pipe --store
+/// NAME --keys NAME --endpoint TEXT`, its words in this order, opens a store, and is refused where there is none or it is
+/// damaged; then it answers the requests of line 0 in their order, each as the plain key manager does. What a request
+/// changes is on the disk before the first byte of its reply is sent.
+///
+/// Where the host tells its calls and the store's files stand for a state when the run begins: what was sent by each
+/// moment is what the plain key manager answers, as far as it went, with a constant reply for a request that was out of
+/// memory, and for the last one where a call of the store failed; and if nothing was pending on the files when the run
+/// began, whatever a stop at that moment leaves of them stands for the plain key manager's state after a number of these
+/// requests that holds each one whose reply was begun. Where the files stand for no state nothing is sent, and what they
+/// stand for stays the same. Whether the host tells or not, words that are not understood are answered as such with no
+/// call made, and a fault only where its count rose.
+pub fn run<H: Host>(alloc: Global, words: &[String], host: &mut H) -> Status
+    // A line that was shut can't be served, and a host has one store.
+    requires line { WhereTold (H.history host.old) (IsOpen 0) }
+    requires store { WhereTold (H.history host.old) (λ h. is_attached h.calls ≡ false) }
+
+    // What was sent by each moment and what a stop leaves then, how the run ended, and that its calls determine how.
+    ensures answers { Answers (spec.init_of (spec.texts words.now)) (spec.pipe_of (spec.texts words.now)) (H.history host.old) (H.history host.new) result }
+
+    // Words that are not understood end the run before its first call.
+    ensures words { spec.init_of (spec.texts words.now) ≡ None → spec.pipe_of (spec.texts words.now) ≡ None → host.new ≡ host.old }
+
+    // A host that told its calls and tells no more is one on which a call was out of memory.
+    ensures stops { Stops (H.wanted host.old) (H.wanted host.new) (H.history host.old) (H.history host.new) }
+
+    // Which statuses each command has.
+    ensures init_ends { IsSome (spec.init_of (spec.texts words.now)) → IsInitStatus result }
+    ensures pipe_ends { spec.init_of (spec.texts words.now) ≡ None → IsSome (spec.pipe_of (spec.texts words.now)) → IsPipeStatus result }
+
+    // A fault is answered only where its count rose; where none did the run is served to its end, or refused, or out of
+    // memory.
+    ensures later { NeverFalls (H.faults host.old) (H.faults host.new) }
+    ensures link_fault { result ≡ Status.LinkFault → Rose (H.faults host.old).link (H.faults host.new).link }
+    ensures store_fault { result ≡ Status.StoreFault → Rose (H.faults host.old).store (H.faults host.new).store }
+    ensures draw_fault { result ≡ Status.DrawFault → Rose (H.faults host.old).draw (H.faults host.new).draw }
+    ensures complete { IsSome (spec.init_of (spec.texts words.now)) ⊎ IsSome (spec.pipe_of (spec.texts words.now))
+        → (Rose (H.faults host.old).link (H.faults host.new).link → ⊥)
+        → (Rose (H.faults host.old).store (H.faults host.new).store → ⊥)
+        → (Rose (H.faults host.old).draw (H.faults host.new).draw → ⊥) → IsUnfaulted result }
+{
+    match init_of(words) {
+        Some(store) => return init_store(store, host),
+        None => {}
+    }
+    match (store_of(words), endpoint_of(words)) {
+        (Some(store), Some(endpoint)) => serve_store(alloc, store, endpoint, host),
+        _ => Status::Words,
     }
 }

@@ -3,6 +3,7 @@ ghost use Rattle.std.specs.Prelude.{◌≡◌, ◌+◌, ◌≤◌, ◌++◌, len
 ghost use Rattle.kms_serve.specs.Status.{code_of, line_of};
 
 use itoa::Buffer;
+use kms_journal::Place;
 
 /// How a run ended.
 #[derive(Clone, Copy, Debug, PartialEq, Eq)]
@@ -13,12 +14,22 @@ pub enum Status {
     Words,
     /// out of memory outside of a request's answer
     NoMemory,
+    /// there is no store
+    NoStore,
+    /// there is a store already
+    StoreExists,
+    /// a call on the store's files failed
+    StoreFault,
     /// the line failed
     LinkFault,
+    /// drawing random bytes failed
+    DrawFault,
     /// the stream ends inside a message, which begins at this place, in bytes
     Rest(u64),
     /// what stands at this place of the stream, in bytes, is no message
     Unreadable(u64),
+    /// the store is damaged at this place
+    Damaged(Place),
 }
 
 // Writes a piece behind what stands before a place, and answers the place after it.
@@ -55,6 +66,20 @@ fn put_place(room: &mut [u8; 192], text: &[u8], place: u64) -> usize
     put(room, at, b"\n")
 }
 
+// The same with a place in a file: the file's number, and the place in bytes.
+#[tactic(auto, using(std::proofs::lemmas::List::append_assoc))]
+fn put_damage(room: &mut [u8; 192], file: u8, place: u64) -> usize
+    ensures bound { result ≤ 192 }
+    ensures text { take result room.new ≡ codes "barbicand: " ++ (codes "damaged: file " ++ decimal file ++ codes " at " ++ decimal place) ++ codes "\n" }
+{
+    let mut buffer = Buffer::new();
+    let at = put(room, 0, b"barbicand: damaged: file ");
+    let at = put(room, at, buffer.format(file).as_bytes());
+    let at = put(room, at, b" at ");
+    let at = put(room, at, buffer.format(place).as_bytes());
+    put(room, at, b"\n")
+}
+
 impl Status {
     /// The exit status of the process.
     pub fn code(&self) -> u8
@@ -63,9 +88,13 @@ impl Status {
         match self {
             Status::Done => 0,
             Status::Words => 1,
+            Status::NoStore | Status::StoreExists => 3,
             Status::NoMemory => 4,
+            Status::StoreFault => 5,
             Status::LinkFault => 6,
+            Status::DrawFault => 8,
             Status::Rest(_) | Status::Unreadable(_) => 9,
+            Status::Damaged(_) => 10,
         }
     }
 
@@ -78,13 +107,18 @@ impl Status {
             Status::Done => 0,
             Status::Words => put_line(room, b"words not understood"),
             Status::NoMemory => put_line(room, b"out of memory"),
+            Status::NoStore => put_line(room, b"no store"),
+            Status::StoreExists => put_line(room, b"store exists"),
+            Status::StoreFault => put_line(room, b"store fault"),
             Status::LinkFault => put_line(room, b"link fault"),
+            Status::DrawFault => put_line(room, b"draw fault"),
             Status::Rest(place) => put_place(
                 room,
                 b"stream ends inside a message at byte ",
                 *place,
             ),
             Status::Unreadable(place) => put_place(room, b"unreadable message at byte ", *place),
+            Status::Damaged(Place::Body { file, at }) => put_damage(room, *file, *at),
         }
     }
 }

@@ -1,10 +1,15 @@
 // Bytes in, bytes out: requests and replies from outside, and that a run succeeds where memory is ample.
-ghost use Rattle.std.specs.Prelude.{◌<◌, IfOk};
+ghost use Rattle.std.specs.Prelude.{◌≡◌, ◌<◌, IfOk, false};
 ghost use Rattle.kms_host.specs.History.{WhereTold};
 ghost use Rattle.kms_host.specs.Line.{IsOpen};
+ghost use Rattle.kms_host.specs.Store.{is_attached};
+
+mod init;
+mod store;
 
 use crate::{Status, run};
-use kms_host::{Count, MemoryHost, NoMemory};
+use kms_host::{Bytes, Count, MemoryHost, NoMemory};
+use kms_journal::Place;
 use std::alloc::{AllocError, Global};
 use std::rt::HostRuntime;
 use std::test::Fail;
@@ -52,7 +57,8 @@ fn owned(alloc: Global, texts: &[&str]) -> Result<Vec<String>, AllocError> {
     Ok(words)
 }
 
-// A host whose line 0 brings these bytes in pieces, and which fails at the given link call, where there is one.
+// A host with a fresh store, whose line 0 brings these bytes in pieces, and which fails at the given link call, where
+// there is one.
 fn host(
     alloc: Global,
     bytes: &[u8],
@@ -60,9 +66,11 @@ fn host(
     fails: Option<u64>,
 ) -> Result<MemoryHost, NoMemory>
     requires { 0 < piece }
-    ensures { IfOk result (λ m. WhereTold m.history (IsOpen 0)) }
+    ensures open { IfOk result (λ m. WhereTold m.history (IsOpen 0)) }
+    ensures store { IfOk result (λ m. WhereTold m.history (λ h. is_attached h.calls ≡ false)) }
 {
-    let mut host = MemoryHost::new(alloc)?;
+    let files = [Bytes::of(alloc, &init::FRESH)?, Bytes::of(alloc, b"")?];
+    let mut host = MemoryHost::restart(alloc, files)?;
     host.line(bytes, piece)?;
     host.moment(499_162_800)?;
     if let Some(nth) = fails {
@@ -178,23 +186,33 @@ fn words_are_exact(rt: HostRuntime) -> Result<(), Fail> {
     Ok(())
 }
 
+// Whether this is the line of a status.
+fn says(status: Status, line: &[u8]) -> bool {
+    let mut room = [0u8; 192];
+    let length = status.line(&mut room);
+    &room[..length] == line
+}
+
 #[test]
 fn statuses_have_a_line(rt: HostRuntime) {
-    let mut room = [0u8; 192];
-    let length = Status::Rest(144).line(&mut room);
-    assert_eq!(rt;
-        &room[..length],
-        b"barbicand: stream ends inside a message at byte 144\n".as_slice()
+    let damage = Status::Damaged(Place::Body { file: 0, at: 58 });
+    assert!(rt; says(Status::Done, b""));
+    assert!(rt; says(Status::Words, b"barbicand: words not understood\n"));
+    assert!(rt; says(Status::NoStore, b"barbicand: no store\n"));
+    assert!(rt; says(Status::StoreExists, b"barbicand: store exists\n"));
+    assert!(rt; says(Status::StoreFault, b"barbicand: store fault\n"));
+    assert!(rt; says(Status::DrawFault, b"barbicand: draw fault\n"));
+    assert!(rt;
+        says(
+            Status::Rest(144),
+            b"barbicand: stream ends inside a message at byte 144\n"
+        )
     );
-    let length = Status::Unreadable(0).line(&mut room);
-    assert_eq!(rt;
-        &room[..length],
-        b"barbicand: unreadable message at byte 0\n".as_slice()
+    assert!(rt;
+        says(
+            Status::Unreadable(0),
+            b"barbicand: unreadable message at byte 0\n"
+        )
     );
-    let length = Status::Words.line(&mut room);
-    assert_eq!(rt;
-        &room[..length],
-        b"barbicand: words not understood\n".as_slice()
-    );
-    assert_eq!(rt; Status::Done.line(&mut room), 0);
+    assert!(rt; says(damage, b"barbicand: damaged: file 0 at 58\n"));
 }

@@ -19,8 +19,17 @@ fn is_value(word: &String) -> bool
     }
 }
 
+fn is_init(words: &[String]) -> bool
+    ensures { result ≡ is_some (spec.init_of (spec.texts words.now)) }
+{
+    match words {
+        [a, b, c] => is(a, "init") && is(b, "--store") && is_value(c),
+        _ => false,
+    }
+}
+
 fn is_pipe(words: &[String]) -> bool
-    ensures { result ≡ is_some (spec.endpoint_of (spec.texts words.now)) }
+    ensures { result ≡ is_some (spec.pipe_of (spec.texts words.now)) }
 {
     match words {
         [a, b, c, d, e, f, g] => {
@@ -36,9 +45,35 @@ fn is_pipe(words: &[String]) -> bool
     }
 }
 
-/// The endpoint that the words name. None exactly where they are not understood.
+/// The store that the words create. None exactly where they are not such words.
+pub fn init_of(words: &[String]) -> Option<&str>
+    ensures { option_copied result ≡ spec.init_of (spec.texts words.now) }
+{
+    if !is_init(words) {
+        return None;
+    }
+    match words {
+        [_, _, store] => Some(store.as_str()),
+        _ => None,
+    }
+}
+
+/// The store that the words serve. None exactly where they are not such words.
+pub fn store_of(words: &[String]) -> Option<&str>
+    ensures { option_copied result ≡ spec.store_of (spec.pipe_of (spec.texts words.now)) }
+{
+    if !is_pipe(words) {
+        return None;
+    }
+    match words {
+        [_, _, store, _, _, _, _] => Some(store.as_str()),
+        _ => None,
+    }
+}
+
+/// The endpoint under which they serve it. None exactly where they are not such words.
 pub fn endpoint_of(words: &[String]) -> Option<&str>
-    ensures { option_copied result ≡ spec.endpoint_of (spec.texts words.now) }
+    ensures { option_copied result ≡ spec.endpoint_of (spec.pipe_of (spec.texts words.now)) }
 {
     if !is_pipe(words) {
         return None;

@@ -1,6 +1,6 @@
 use Rattle.std.proofs.Common.{◌<◌, length, sym, ◌∙◌, arith}
 use Rattle.std.proofs.lemmas.Bool.{eqb-false}
-use Rattle.kms_host.proofs.FaultLaws.{never_falls_then}
+use Rattle.kms_host.proofs.FaultLaws.{never_falls_then, stops_then}
 use Rattle.kms_host.proofs.Moments.{since_add, known_with_told}
 use Rattle.kms_host.specs.Line.{IsOpen}
 use Rattle.kms_serve.specs.Owed.{Gives}
@@ -24,5 +24,6 @@ loop-rest-preserved g c =
           (λ was calls h. giving_more c.args.line c.in_ok-count.count c.args.bytes.now c.loop-rest.rest.now calls some h));
       unshut = known_with_told (IsOpen c.args.line) c.loop-rest.invariant.unshut c.in_ok-count.ensures.told
           (λ was now k is. open_gave c.args.line c.args.line c.loop-rest.rest.now was now _ is k);
+      stops = stops_then c.loop-rest.invariant.stops c.in_ok-count.ensures.stops;
       later = never_falls_then c.loop-rest.invariant.later c.in_ok-count.ensures.cause.later;
     }

@@ -1,21 +1,29 @@
 use Rattle.std.proofs.Common.{refl}
-use Rattle.kms_host.proofs.FaultLaws.{never_falls_same}
-use Rattle.kms_host.proofs.Moments.{since_none}
-use Rattle.kms_serve.specs.Owing.{GoodAt}
-use Rattle.kms_serve.specs.Theorem.{first_state}
+use Rattle.kms_host.proofs.FaultLaws.{never_falls_same, stops_same}
+use Rattle.kms_host.proofs.Moments.{since_weaker}
+use Rattle.kms_serve.specs.Base.{base, FromStore}
+use Rattle.kms_serve.specs.Owing.{EndedAt}
+use Rattle.kms_serve.specs.Turns.{serving_of}
 use Rattle.kms_serve.specs.declared.serving.Serving.{Serving}
-use Rattle.kms_serve.proofs.OwingLaws.{good_first}
+use Rattle.kms_serve.specs.declared.status.Status.TheVariants as status
+use Rattle.kms_serve.proofs.OwingLaws.{ended_wanted}
 use Rattle.kms_serve.proofs.TurnLaws.{bounded_first}
 use Rattle.kms_serve.proofs.line.serve_line.Goals as goal
 
 pub loop-status-init : goal.loop-status-init
 loop-status-init g c =
-    let s : Serving = record { engine = c.in-Ok-empty.engine; reader = c.new.result; count = 0 } in
+    let s : Serving = record { engine = c.args.engine; reader = c.new.result; count = 0 } in
     record {
-      good = since_none (g.H.Host.history c.args.host.now) (λ was calls. GoodAt c.args.endpoint.now first_state s calls)
-          (λ was. good_first c.args.endpoint.now first_state s c.in-Ok-empty.ensures c.new.ensures refl);
+      good = λ store start good. rw c.new.ensures good;
+      idle = c.requires.idle;
+      ready = c.requires.ready;
       bounded = bounded_first s c.new.ensures refl;
-      unshut = c.requires;
       room = c.in-Ok.ensures;
+      stops = stops_same _ _;
       later = never_falls_same _;
     }
+
+pub returns-in_default-clause-ended : goal.returns-in_default-clause-ended
+returns-in_default-clause-ended g c store start good =
+    since_weaker (λ was calls. FromStore store was (λ b. EndedAt c.args.endpoint.now b status.NoMemory calls)) good
+    (λ was calls h first steps stands. ended_wanted c.args.endpoint.now (base store was first steps) (serving_of c.args.engine) calls (h first steps stands))

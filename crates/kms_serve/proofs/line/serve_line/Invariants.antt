@@ -1,17 +1,19 @@
-use Rattle.std.proofs.Common.{◌≡◌, ◌+◌, ◌-◌, length}
-use Rattle.kms_host.specs.History.{WhereTold}
-use Rattle.kms_host.specs.Line.{IsOpen}
+use Rattle.std.proofs.Common.{◌≡◌, ℕ, ◌+◌, ◌-◌, List, Option, length}
+use Rattle.kms_host.specs.History.{History, WhereTold, Stops}
 use Rattle.kms_host.specs.Faults.{NeverFalls}
-use Rattle.kms_serve.specs.Theorem.{first_state}
-use Rattle.kms_serve.specs.Turns.{Good, IsBounded, fed}
+use Rattle.kms_core.specs.Steps.{IsIdle}
+use Rattle.kms_serve.specs.Turns.{Good, IsBounded, CanServe, serving_of, fed}
 use Rattle.kms_serve.proofs.line.serve_line.Given as goal
 
 abbrev pub invariant-loop-status : goal.invariant-loop-status
 invariant-loop-status g l = record {
-  good : Good l.endpoint first_state (g.H.Host.history l.initial.host) (g.H.Host.history l.host) l.s;
+  good : (store : List ℕ) (start : Option History) → Good l.endpoint store start (g.H.Host.history l.initial.host) (serving_of l.fn.engine)
+      → Good l.endpoint store start (g.H.Host.history l.host) l.s;
+  idle : IsIdle l.s.engine;
+  ready : WhereTold (g.H.Host.history l.host) (CanServe l.s.engine);
   bounded : IsBounded l.s;
-  unshut : WhereTold (g.H.Host.history l.host) (IsOpen 0);
   room : length l.room.items ≡ 65536;
+  stops : Stops (g.H.Host.wanted l.initial.host) (g.H.Host.wanted l.host) (g.H.Host.history l.initial.host) (g.H.Host.history l.host);
   later : NeverFalls (g.H.Host.faults l.initial.host) (g.H.Host.faults l.host);
 }
 

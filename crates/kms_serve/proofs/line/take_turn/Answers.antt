@@ -1,5 +1,10 @@
 use Rattle.std.proofs.Common.{refl}
+use Rattle.kms_host.proofs.Moments.{since_weaker}
+use Rattle.kms_serve.specs.Base.{base, FromStore}
+use Rattle.kms_serve.specs.Owing.{EndedAt}
 use Rattle.kms_serve.specs.declared.serving.Serving.{Serving}
+use Rattle.kms_serve.specs.declared.status.Status.TheVariants as status
+use Rattle.kms_serve.proofs.OwingLaws.{ended_wanted}
 use Rattle.kms_serve.proofs.TurnLaws.{taken_passed, taken_held}
 use Rattle.kms_serve.proofs.line.take_turn.Goals as goal
 
@@ -14,3 +19,18 @@ serve_request-requires-clause-held g c =
     let reads = rw c.in-Ok-Message.field-0-is at c.in-Ok-Message.ensures.ok in
     let after : Serving = record { engine = c.args.s.now.engine; reader = c.next.new.self; count = c.args.s.now.count } in
     taken_held c.args.s.now after c.in-Ok-Message.request c.in-Ok-Message.close reads.0 c.requires.bounded
+
+pub returns-in-Ok-Bad-clause-good : goal.returns-in-Ok-Bad-clause-good
+returns-in-Ok-Bad-clause-good g c store start good =
+    let reads = rw c.in-Ok-Bad.field-0-is at c.in-Ok-Bad.ensures.ok in
+    c.refuse.ensures.good store start (rw reads.1 good)
+
+pub returns-in-Ok-More-clause-good : goal.returns-in-Ok-More-clause-good
+returns-in-Ok-More-clause-good g c store start good =
+    let reads = rw c.in-Ok-More.field-0-is at c.in-Ok-More.ensures.ok in
+    c.take_more.ensures.good c.args.endpoint.now store start (rw reads.1 good)
+
+pub returns-in-Err-clause-good : goal.returns-in-Err-clause-good
+returns-in-Err-clause-good g c store start good =
+    since_weaker (λ was calls. FromStore store was (λ b. EndedAt c.args.endpoint.now b status.NoMemory calls)) good
+    (λ was calls h first steps stands. ended_wanted c.args.endpoint.now (base store was first steps) c.args.s.now calls (h first steps stands))

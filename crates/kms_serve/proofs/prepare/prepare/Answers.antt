@@ -1,22 +1,61 @@
-use Rattle.std.proofs.Common.{refl}
-use Rattle.kms_host.proofs.Moments.{since_weaker, since_call}
-use Rattle.kms_model.specs.declared.event.Mark.TheVariants.{Unmarked, Memory}
-use Rattle.kms_serve.specs.Owed.{Prepares}
-use Rattle.kms_serve.proofs.OwingLaws.{prepared_by}
+use Rattle.std.proofs.Common.{true, false, refl, sym}
+use Rattle.std.proofs.lemmas.Bool.{false≢true}
+use Rattle.kms_host.specs.Line.{IsOpen}
+use Rattle.kms_host.proofs.Moments.{known_after_told}
+use Rattle.kms_serve.specs.Events.{event}
+use Rattle.kms_serve.specs.Owed.{steps_at}
+use Rattle.kms_serve.specs.Turns.{CanServe}
+use Rattle.kms_serve.proofs.PrepareLaws.{placed, settling, prepared, open_settling, ready_settling}
+use Rattle.kms_serve.proofs.ToldLaws.{uncalled}
 use Rattle.kms_serve.proofs.prepare.prepare.Goals as goal
+
+pub settle-requires : goal.settle-requires
+settle-requires g c =
+    record { placed = rw c.reply-owed.ensures.host (placed c.args.engine.now c.reply-owed.new.engine c.now-told.result c.requires.ready c.now-told.ensures.told c.reply-owed.ensures.waits) }
 
 pub returns-in-Ok-clause-prepared : goal.returns-in-Ok-clause-prepared
 returns-in-Ok-clause-prepared g c = λ served n is last.
-    let reply = rw (c.capped-moment.ensures, is, last) at c.in-Ok.ensures.reply in
-    let state = rw (c.capped-moment.ensures, is) at c.in-Ok.ensures.state in
-    rw c.respond.ensures.host
-    (since_weaker (λ was calls. Prepares c.args.endpoint.now c.args.engine.now.state c.respond.new.engine.state served n c.in-Ok.reply calls)
-    (since_call c.now-told.ensures.told)
-    (λ was calls made. prepared_by c.args.endpoint.now c.args.engine.now.state c.respond.new.engine.state served n c.now-told.result Unmarked c.in-Ok.reply reply state calls made))
+    let e = event n c.now-told.result served in
+    let r = c.reply-owed.ensures.responds e is (sym c.capped-moment.ensures) (sym last) in
+    let here = rw c.reply-owed.ensures.host at c.in-Ok.ensures.told in
+    let fails = rw c.reply-owed.ensures.host at c.in-Ok.ensures.failed in
+    prepared c.args.endpoint.now c.args.engine.now c.reply-owed.new.engine c.settle.new.self served n c.now-told.result c.reply-owed.result c.reply-owed.result false r c.in-Ok.ensures.same c.reply-owed.ensures.no_fault
+    (λ well. refl) (λ bad. absurd (false≢true bad))
+    (settling c.args.engine.now c.reply-owed.new.engine c.settle.new.self c.now-told.result (steps_at c.args.engine.now e r.mark) _ c.requires.ready c.now-told.ensures.told r.waits here fails c.in-Ok.ensures.same c.in-Ok.ensures.ok (uncalled g.H.Host.history _ _ _ c.in-Ok.ensures.idle c.reply-owed.ensures.host))
+
+pub returns-in-Ok-clause-open : goal.returns-in-Ok-clause-open
+returns-in-Ok-clause-open g c =
+    let here = rw c.reply-owed.ensures.host at c.in-Ok.ensures.told in
+    let fails = rw c.reply-owed.ensures.host at c.in-Ok.ensures.failed in
+    let w = c.reply-owed.ensures.waits in
+    known_after_told (IsOpen 0)
+    (settling c.args.engine.now c.reply-owed.new.engine c.settle.new.self c.now-told.result w.0 _ c.requires.ready c.now-told.ensures.told w.1 here fails c.in-Ok.ensures.same c.in-Ok.ensures.ok (uncalled g.H.Host.history _ _ _ c.in-Ok.ensures.idle c.reply-owed.ensures.host))
+    (λ was now k. open_settling c.args.engine.now c.settle.new.self c.now-told.result w.0 _ was now k)
+
+pub returns-in-Ok-clause-ready : goal.returns-in-Ok-clause-ready
+returns-in-Ok-clause-ready g c = λ well.
+    let here = rw c.reply-owed.ensures.host at c.in-Ok.ensures.told in
+    let fails = rw c.reply-owed.ensures.host at c.in-Ok.ensures.failed in
+    let w = c.reply-owed.ensures.waits in
+    known_after_told (CanServe c.settle.new.self)
+    (settling c.args.engine.now c.reply-owed.new.engine c.settle.new.self c.now-told.result w.0 _ c.requires.ready c.now-told.ensures.told w.1 here fails c.in-Ok.ensures.same c.in-Ok.ensures.ok (uncalled g.H.Host.history _ _ _ c.in-Ok.ensures.idle c.reply-owed.ensures.host))
+    (λ was now k. ready_settling c.args.engine.now c.settle.new.self c.now-told.result w.0 was now k)
 
 pub returns-in-Err-clause-prepared : goal.returns-in-Err-clause-prepared
 returns-in-Err-clause-prepared g c = λ served n is last.
-    rw c.respond.ensures.host
-    (since_weaker (λ was calls. Prepares c.args.endpoint.now c.args.engine.now.state c.respond.new.engine.state served n _ calls)
-    (since_call c.now-told.ensures.told)
-    (λ was calls made. prepared_by c.args.endpoint.now c.args.engine.now.state c.respond.new.engine.state served n c.now-told.result Memory _ refl c.in-Err.ensures.err calls made))
+    let e = event n c.now-told.result served in
+    let r = c.reply-owed.ensures.responds e is (sym c.capped-moment.ensures) (sym last) in
+    let here = rw c.reply-owed.ensures.host at c.in-Err.ensures.told in
+    let fails = rw c.reply-owed.ensures.host at c.in-Err.ensures.failed in
+    prepared c.args.endpoint.now c.args.engine.now c.reply-owed.new.engine c.settle.new.self served n c.now-told.result c.reply-owed.result _ true r c.in-Err.ensures.same refl
+    (λ well. absurd (false≢true (sym well))) (λ bad. refl)
+    (settling c.args.engine.now c.reply-owed.new.engine c.settle.new.self c.now-told.result (steps_at c.args.engine.now e r.mark) _ c.requires.ready c.now-told.ensures.told r.waits here fails c.in-Err.ensures.same tt (uncalled g.H.Host.history _ _ _ c.in-Err.ensures.idle c.reply-owed.ensures.host))
+
+pub returns-in-Err-clause-open : goal.returns-in-Err-clause-open
+returns-in-Err-clause-open g c =
+    let here = rw c.reply-owed.ensures.host at c.in-Err.ensures.told in
+    let fails = rw c.reply-owed.ensures.host at c.in-Err.ensures.failed in
+    let w = c.reply-owed.ensures.waits in
+    known_after_told (IsOpen 0)
+    (settling c.args.engine.now c.reply-owed.new.engine c.settle.new.self c.now-told.result w.0 _ c.requires.ready c.now-told.ensures.told w.1 here fails c.in-Err.ensures.same tt (uncalled g.H.Host.history _ _ _ c.in-Err.ensures.idle c.reply-owed.ensures.host))
+    (λ was now k. open_settling c.args.engine.now c.settle.new.self c.now-told.result w.0 _ was now k)

@@ -1,12 +1,10 @@
-use Rattle.kms_host.proofs.Moments.{since_weaker}
-use Rattle.kms_serve.specs.Theorem.{Carries, first_state}
-use Rattle.kms_serve.proofs.EndLaws.{carries}
+use Rattle.kms_serve.proofs.ServeLaws.{no_words_init, answers_pipe}
 use Rattle.kms_serve.proofs.program.run.Goals as goal
 
 pub returns-in-Some-clause-answers : goal.returns-in-Some-clause-answers
 returns-in-Some-clause-answers g c =
-    rw (← c.in-Some.ensures) (
-      c.serve_line.ensures.words,
-      since_weaker (λ was calls. Carries c.in-Some.endpoint.now first_state c.serve_line.result calls) c.serve_line.ensures.ended
-          (λ was calls e. carries c.in-Some.endpoint.now first_state c.serve_line.result calls e),
-    )
+    rw (← c.in-Some.ensures) (no_words_init c.init_store.result c.init_store.ensures.ends, c.init_store.ensures.made)
+
+pub returns-in-Some-Some-clause-answers : goal.returns-in-Some-Some-clause-answers
+returns-in-Some-Some-clause-answers g c =
+    answers_pipe _ _ c.in-Some-Some.store.now c.in-Some-Some.endpoint.now c.serve_store.result c.in-None.ensures c.in-Some-Some.ensures c.in-Some-Some.ensures' c.serve_store.ensures.ends c.serve_store.ensures.carries

@@ -1,0 +1,73 @@
+-- Runs of `init` that its contract refuses: from each wrong list of calls, the newest first, and the contract follows anything.
+use Rattle.std.proofs.Common.{◌≡◌, inl, inr, ℕ, List, [], ◌∷◌, false, lit<, sym, ◌∙◌, ap, arith}
+use Rattle.std.specs.Prelude.{Option, Some, None, Result}
+use Rattle.kms_host.specs.Disk.{Disk}
+use Rattle.kms_host.specs.History.{History}
+use Rattle.kms_host.specs.Store.{apart_from_files}
+use Rattle.kms_host.specs.declared.call.Call.{Call}
+use Rattle.kms_host.specs.declared.call.Call.TheVariants.{Attached, Gave, OnFile, Told, Drew}
+use Rattle.kms_host.specs.declared.call.FileCall.TheVariants.{Wrote, Synced}
+use Rattle.kms_host.specs.declared.call.NameFault.{NameFault}
+use Rattle.kms_host.specs.declared.call.Purpose.TheVariants.{Tag}
+use Rattle.kms_journal.specs.Device.{IsQuietStore}
+use Rattle.kms_serve.specs.Init.{IsAlone, IsNoStore, IsStore, Inits}
+use Rattle.kms_serve.specs.declared.status.Status.{Status}
+use Rattle.kms_serve.specs.declared.status.Status.TheVariants as status
+
+gave_alone : (store : List ℕ) (line : ℕ) (piece : List ℕ) (went : Option ℕ) (rest : List Call) → IsAlone store (Gave line piece went ∷ rest) → ⊥
+gave_alone store line piece went rest (inl e) = cc
+gave_alone store line piece went rest (inr (inl e)) = let same = e.1 in cc
+gave_alone store line piece went rest (inr (inr e)) = let same = e.1 in cc
+
+-- it sends bytes
+pub sends_bytes : (store : List ℕ) (s : Status) (was : History) (line : ℕ) (piece : List ℕ) (went : Option ℕ) (calls : List Call) → Inits store s was (Gave line piece went ∷ calls) → ⊥
+sends_bytes store s was line piece went calls i = gave_alone store line piece went (apart_from_files calls) i.each.0.alone
+
+told_alone : (store : List ℕ) (moment : ℕ) (rest : List Call) → IsAlone store (Told moment ∷ rest) → ⊥
+told_alone store moment rest (inl e) = cc
+told_alone store moment rest (inr (inl e)) = let same = e.1 in cc
+told_alone store moment rest (inr (inr e)) = let same = e.1 in cc
+
+-- it asks for the time
+pub asks_for_the_time : (store : List ℕ) (s : Status) (was : History) (moment : ℕ) (calls : List Call) → Inits store s was (Told moment ∷ calls) → ⊥
+asks_for_the_time store s was moment calls i = told_alone store moment (apart_from_files calls) i.each.0.alone
+
+drew_alone : (store : List ℕ) (bytes again : Option (List ℕ)) (rest : List Call) → IsAlone store (Drew Tag again ∷ Drew Tag bytes ∷ rest) → ⊥
+drew_alone store bytes again rest (inl e) = cc
+drew_alone store bytes again rest (inr (inl e)) = let same = e.1 in cc
+drew_alone store bytes again rest (inr (inr e)) = let same = e.1 in cc
+
+-- it draws twice
+pub draws_twice : (store : List ℕ) (s : Status) (was : History) (bytes again : Option (List ℕ)) (calls : List Call) → Inits store s was (Drew Tag again ∷ Drew Tag bytes ∷ calls) → ⊥
+draws_twice store s was bytes again calls i = drew_alone store bytes again (apart_from_files calls) i.each.0.alone
+
+attached_alone : (store other : List ℕ) (done : Result (Unit {0}) NameFault) (rest : List Call) → IsAlone store (Attached other done ∷ rest) → other ≡ store
+attached_alone store other done rest (inl e) = cc
+attached_alone store other done rest (inr (inl e)) = let same = e.1 in cc
+attached_alone store other done rest (inr (inr e)) = let same = e.1 in cc
+
+-- it names another store
+pub names_another_store : (store other : List ℕ) (s : Status) (was : History) (done : Result (Unit {0}) NameFault) (calls : List Call) → (other ≡ store → ⊥)
+    → Inits store s was (Attached other done ∷ calls) → ⊥
+names_another_store store other s was done calls differ i = differ (attached_alone store other done (apart_from_files calls) i.each.0.alone)
+
+-- it is done behind a write that was not synced
+pub done_without_a_sync : (store : List ℕ) (was : History) (at : ℕ) (piece : List ℕ) (left : Option (List ℕ)) (calls : List Call) → IsQuietStore was
+    → Inits store status.Done was (OnFile 0 (Wrote at piece left) ∷ calls) → ⊥
+done_without_a_sync store was at piece left calls quiet i =
+    let none = ap (λ (d : Disk). d.ranges) (i.end.quiet quiet 0 (lit< tt)) in cc
+
+-- it is done where there was a store, or answers that there is one where there was none
+pub done_over_a_store : (store : List ℕ) (was : History) (calls : List Call) → IsStore was → Inits store status.Done was calls → ⊥
+done_over_a_store store was calls there i = let no : None ≡ Some there.0 = sym i.end.none ∙ there.1 in cc
+
+pub exists_where_none_is : (store : List ℕ) (was : History) (calls : List Call) → IsNoStore was → Inits store status.StoreExists was calls → ⊥
+exists_where_none_is store was calls none i = let no : None ≡ Some i.end.0.0 = sym none ∙ i.end.0.1 in cc
+
+-- it answers a fault of the store though no call was made
+pub fault_without_a_call : (store : List ℕ) (was : History) → Inits store status.StoreFault was [] → ⊥
+fault_without_a_call store was i = omega (arith, i.end)
+
+-- it is done behind a call of the store that failed
+pub fault_passed_over : (store : List ℕ) (was : History) (calls : List Call) → Inits store status.Done was (OnFile 0 (Synced false) ∷ calls) → ⊥
+fault_passed_over store was calls i = let none = i.faultless (λ e. cc) in omega (arith, none)

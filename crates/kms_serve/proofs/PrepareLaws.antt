@@ -1,0 +1,239 @@
+-- A message is answered, and its steps are settled.
+use Rattle.std.proofs.Common.{◌≡◌, ℕ, ◌+◌, List, [], ◌∷◌, ◌++◌, Bool, true, false, Option, Some, None, Result, Ok, Err, refl, sym, ap, subst, ◌∙◌, arith, length, length-append}
+use Rattle.std.specs.Prelude.{IfSome, IsTrue, OnOk, is_err, is_some}
+use Rattle.std.proofs.lemmas.Bool.{false≢true}
+use Rattle.std.proofs.lemmas.List.{nil_from_length}
+use Rattle.kms_host.specs.History.{History, Tells, WhereTold, then_call}
+use Rattle.kms_host.specs.Line.{IsOpen, OnlyGives, is_shut}
+use Rattle.kms_host.specs.Moment.{AtEach, Since, then_calls}
+use Rattle.kms_host.specs.declared.call.Call.{Call}
+use Rattle.kms_host.specs.declared.call.Call.TheVariants.{Took, Told}
+use Rattle.kms_host.proofs.LineLaws.{open-gives}
+use Rattle.kms_host.proofs.Moments.{tells_then, tells_with, since_told, known_with_told, at_map, at_last, then_calls-append, then_calls-calls}
+use Rattle.kms_journal.specs.Device.{IsQuietStore}
+use Rattle.kms_host.specs.Store.{others}
+use Rattle.kms_journal.specs.Fault.{Fails}
+use Rattle.kms_journal.specs.Position.{IsPlaced}
+use Rattle.kms_journal.specs.Standing.{Standing}
+use Rattle.kms_world.specs.State.{State}
+use Rattle.kms_core.specs.Settling.{IsOpened, IsSettledOrAll, Settles}
+use Rattle.kms_core.specs.Steps.{Held, IsIdle, IsSettled}
+use Rattle.kms_core.specs.Waiting.{Spelled, Keeping, IsAhead, count_of, with_waiting}
+use Rattle.kms_core.proofs.StandsLaws.{one_state, some_is}
+use Rattle.kms_host.specs.Disk.{files}
+use Rattle.kms_http.specs.Reply.{fault_reply_of}
+use Rattle.kms_http.specs.Stream.{Served}
+use Rattle.kms_http.specs.declared.fault.FaultReply.TheVariants.{F1}
+use Rattle.kms_serve.specs.Events.{event}
+use Rattle.kms_serve.specs.Owed.{Waits, Responds, Settled, Prepares, owed_bytes, is_fault, steps_at}
+use Rattle.kms_serve.specs.StoreCalls.{store_failed, OnlyFiles}
+use Rattle.kms_serve.specs.Turns.{CanServe}
+use Rattle.kms_serve.specs.declared.owed.Owed.{Owed}
+use Rattle.kms_serve.proofs.CrashLaws.{same_told, same_took, same_gave_all, settled_same, settled_stands}
+use Rattle.kms_serve.proofs.ToldLaws.{tells_both, tells_idle}
+use Rattle.kms_serve.proofs.StoreCallLaws.{only_files, failed_since, same_by_files}
+
+-- what settling promises, as its contract says it
+abbrev pub SettleClause : {T E : Type 0} → (then after : Held) → Result T E → (was now : History) → Type 0
+SettleClause then after result was now = (store : Keeping) (settled : State) (steps : ℕ) → then.store ≡ Some store → IsOpened store was settled steps then.state
+    → (new : Keeping) × (after.store ≡ Some new) × Settles new result settled steps then.state (count_of store.waiting) was now
+
+-- the calls that settled
+pub record Calls (before after : Held) (steps more : ℕ) (failed : Bool) (mid now : History) : Type 0 where
+  pub on_files : List Call
+  pub extends : now ≡ then_calls mid on_files
+  pub only : OnlyFiles on_files
+  pub idle : more ≡ 0 → on_files ≡ []
+  pub fails : store_failed on_files ≡ failed
+  pub settled : Settled before after steps more failed mid on_files
+
+idle_none : (engine : Held) (store : Keeping) → engine.store ≡ Some store → IsIdle engine → store.waiting ≡ None
+idle_none engine store is idle = subst (λ (s : Option Keeping). IfSome s (λ k. k.waiting ≡ None)) is idle
+
+-- no step waits where their number is 0
+waiting_none : (w : Option Spelled) (s t : State) → count_of w ≡ 0 → IsAhead w s t → w ≡ None
+waiting_none None s t none ahead = refl
+waiting_none (Some w) s t none ahead = absurd (omega (arith, none, ahead.1.count, ahead.1.admitted.some))
+
+no_calls : (h : History) (more : List Call) → then_calls h more ≡ h → more ≡ []
+no_calls h more same =
+    let long = ap length (sym (then_calls-calls h more) ∙ ap (λ (x : History). x.calls) same) in
+    nil_from_length more (omega (arith, long, length-append more h.calls))
+
+module _ (before then after : Held) (steps more : ℕ) (mid now : History) (s : IsSettled before steps mid) (waits : Waits before then more) (same : after.state ≡ then.state) where
+  w : (waiting : Option Spelled) × (then.store ≡ Some (with_waiting waiting s.0)) × (count_of waiting ≡ more) × IsAhead waiting before.state then.state
+  w = subst (λ (o : Option Keeping). IfSome o (λ store. (waiting : Option Spelled) × (then.store ≡ Some (with_waiting waiting store)) × (count_of waiting ≡ more) × IsAhead waiting before.state then.state)) s.1 waits
+
+  opened : IsOpened (with_waiting w.0 s.0) mid before.state steps then.state
+  opened = let o = s.3 in record { standing = o.standing; placed = o.placed; kept = o.kept; counted = o.counted; ahead = w.3 }
+
+  idle_then : more ≡ 0 → IsIdle then
+  idle_then none =
+      let nothing : w.0 ≡ None = waiting_none w.0 before.state then.state (w.2 ∙ none) w.3 in
+      subst (λ (o : Option Keeping). IfSome o (λ k. k.waiting ≡ None)) (sym w.1) nothing
+
+  moments : (on_files : List Call) → AtEach (λ x. IsSettledOrAll before.state steps then.state (count_of w.0) mid (then_calls mid x)) on_files
+      → AtEach (λ x. IsSettledOrAll before.state steps after.state more mid (then_calls mid x)) on_files
+  moments on_files each =
+      at_map (λ x. IsSettledOrAll before.state steps then.state (count_of w.0) mid (then_calls mid x)) (λ x. IsSettledOrAll before.state steps after.state more mid (then_calls mid x)) on_files
+      (λ x h. subst (λ (k : ℕ). IsSettledOrAll before.state steps after.state k mid (then_calls mid x)) w.2
+      (subst (λ (q : State). IsSettledOrAll before.state steps q (count_of w.0) mid (then_calls mid x)) (sym same) h))
+      each
+
+  pub calls_of : {T E : Type 0} (result : Result T E) → SettleClause then after result mid now → Fails (is_err result) mid now → OnOk result (IsIdle after) → (IsIdle then → now ≡ mid)
+      → Calls before after steps more (is_err result) mid now
+  calls_of (Ok x) clause fails idle uncalled =
+      let k = clause (with_waiting w.0 s.0) before.state steps w.1 opened in
+      let t = k.2.throughout in
+      let only = only_files mid t.more (ap (λ (h : History). others h) (sym t.extends) ∙ (at_last (IsSettledOrAll before.state steps then.state (count_of w.0) mid) mid now t).others) in
+      record {
+        on_files = t.more;
+        extends = t.extends;
+        only = only;
+        idle = λ none. no_calls mid t.more (sym t.extends ∙ uncalled (idle_then none));
+        fails = failed_since mid t.more false (subst (Fails false mid) t.extends fails);
+        settled = record {
+          each = moments t.more t.each;
+          done = λ well. (
+            k.0,
+            k.1,
+            idle_none after k.0 k.1 idle,
+            subst (λ (q : State). IsOpened k.0 (then_calls mid t.more) q (steps + more) q) (sym same)
+                (subst (λ (n : ℕ). IsOpened k.0 (then_calls mid t.more) then.state (steps + n) then.state) w.2 (subst (λ (h : History). IsOpened k.0 h then.state (steps + count_of w.0) then.state) t.extends k.2.done)),
+          );
+          quiet = λ well quiet. subst IsQuietStore t.extends (k.2.quiet quiet);
+        };
+      }
+  calls_of (Err e) clause fails idle uncalled =
+      let k = clause (with_waiting w.0 s.0) before.state steps w.1 opened in
+      let t = k.2.throughout in
+      let only = only_files mid t.more (ap (λ (h : History). others h) (sym t.extends) ∙ (at_last (IsSettledOrAll before.state steps then.state (count_of w.0) mid) mid now t).others) in
+      record {
+        on_files = t.more;
+        extends = t.extends;
+        only = only;
+        idle = λ none. no_calls mid t.more (sym t.extends ∙ uncalled (idle_then none));
+        fails = failed_since mid t.more true (subst (Fails true mid) t.extends fails);
+        settled = record {
+          each = moments t.more t.each;
+          done = λ well. absurd (false≢true (sym well));
+          quiet = λ well quiet. absurd (false≢true (sym well));
+        };
+      }
+
+-- A time was told, and the steps that wait were settled.
+pub record Settling (before after : Held) (time more : ℕ) (failed : Bool) (was now : History) : Type 0 where
+  pub ready : CanServe before was
+  pub calls : Calls before after ready.steps more failed (then_call was (Told time)) now
+
+pub settling : {a d c : Option History} {T E : Type 0} (before then after : Held) (time more : ℕ) (result : Result T E)
+    → WhereTold a (CanServe before) → Tells a d (λ was now. now ≡ then_call was (Told time)) → Waits before then more
+    → Tells d c (SettleClause then after result) → Tells d c (Fails (is_err result)) → after.state ≡ then.state → OnOk result (IsIdle after) → (IsIdle then → c ≡ d)
+    → Tells a c (Settling before after time more (is_err result))
+settling before then after time more result ready told waits clause fails same idle uncalled =
+    tells_then (Settling before after time more (is_err result))
+    (tells_with (λ was now. CanServe before was × (now ≡ then_call was (Told time))) ready told (λ was now k e. (k, e)))
+    (tells_idle (tells_both clause fails) uncalled)
+    (λ was mid now k h.
+    let here = settled_same before k.0.steps was (then_call was (Told time)) (same_told was time) k.0.settled in
+    record {
+      ready = k.0;
+      calls = calls_of before then after k.0.steps more (then_call was (Told time)) now here waits same result (subst (λ (m : History). SettleClause then after result m now) k.1 h.0.0) (subst (λ (m : History). Fails (is_err result) m now) k.1 h.0.1) idle (λ i. h.1 i ∙ k.1);
+    })
+
+-- the same as the calls since then
+told_and : (was : History) (t : ℕ) (on_files : List Call) → then_calls (then_call was (Told t)) on_files ≡ then_calls was (on_files ++ Told t ∷ [])
+told_and was t on_files = sym (then_calls-append was on_files (Told t ∷ []))
+
+pub prepared : {a c : Option History} (endpoint : List ℕ) (before then after : Held) (sv : Served) (n time : ℕ) (owed final : Owed) (failed : Bool)
+    → (r : Responds endpoint before then (event n time sv) owed)
+    → after.state ≡ then.state
+    → is_fault final ≡ failed → (failed ≡ false → final ≡ owed) → (failed ≡ true → owed_bytes final ≡ fault_reply_of F1)
+    → Tells a c (Settling before after time (steps_at before (event n time sv) r.mark) failed)
+    → Since a c (λ was calls. Prepares endpoint before after sv n final was calls)
+prepared endpoint before then after sv n time owed final failed r same fault well bad settled =
+    since_told (λ was calls. Prepares endpoint before after sv n final was calls) settled
+    (λ was now k.
+    let f = k.calls in
+    let more = steps_at before (event n time sv) r.mark in (
+      f.on_files ++ Told time ∷ [],
+      f.extends ∙ told_and was time f.on_files,
+      record {
+        time = time;
+        mark = r.mark;
+        files = f.on_files;
+        made = refl;
+        only = f.only;
+        idle = f.idle;
+        failed = f.fails ∙ sym fault;
+        reply_is = λ not. ap owed_bytes (well (sym fault ∙ not)) ∙ r.reply_is;
+        fault_is = λ is. bad (sym fault ∙ is);
+        state = same ∙ r.state;
+        settled = λ steps here.
+            let one = one_state (files was) before.state before.state k.ready.steps steps (settled_stands before k.ready.steps was k.ready.settled) (settled_stands before steps was here) in
+            subst (λ (x : Bool). Settled before after steps more x (then_call was (Told time)) f.on_files) (sym fault)
+            (subst (λ (m : ℕ). Settled before after m more failed (then_call was (Told time)) f.on_files) one.1 f.settled);
+      },
+    ))
+
+-- the line stays open
+pub open_settling : (before after : Held) (time more : ℕ) (failed : Bool) (was now : History) → Settling before after time more failed was now → IsOpen 0 now
+open_settling before after time more failed was now k =
+    let f = k.calls in
+    let mid : History = then_call was (Told time) in
+    let here : is_shut 0 (then_calls mid f.on_files).calls ≡ is_shut 0 was.calls =
+    ap (is_shut 0) (then_calls-calls mid f.on_files) ∙ same_by_files (is_shut 0) (λ file c calls. refl) f.on_files mid.calls f.only in
+    subst (IsOpen 0) (sym f.extends) (record { came = omega arith; not_shut = here ∙ k.ready.unshut.not_shut })
+
+-- and where all was settled the next message can be served
+pub ready_settling : (before after : Held) (time more : ℕ) (was now : History) → Settling before after time more false was now → CanServe after now
+ready_settling before after time more was now k =
+    let f = k.calls in
+    record { unshut = open_settling before after time more false was now k; steps = k.ready.steps + more; settled = subst (IsSettled after (k.ready.steps + more)) (sym f.extends) (f.settled.done refl) }
+
+-- what waits, told of an engine of the same state and store
+pub waits_by : (a b after : Held) (m n : ℕ) → b.store ≡ a.store → b.state ≡ a.state → m ≡ n → Waits b after m → Waits a after n
+waits_by a b after m n store state steps w =
+    subst (λ (o : Option Keeping). IfSome o (λ k. (waiting : Option Spelled) × (after.store ≡ Some (with_waiting waiting k)) × (count_of waiting ≡ n) × IsAhead waiting a.state after.state)) store
+    (subst (λ (q : State). IfSome b.store (λ k. (waiting : Option Spelled) × (after.store ≡ Some (with_waiting waiting k)) × (count_of waiting ≡ n) × IsAhead waiting q after.state)) state
+    (subst (λ (x : ℕ). IfSome b.store (λ k. (waiting : Option Spelled) × (after.store ≡ Some (with_waiting waiting k)) × (count_of waiting ≡ x) × IsAhead waiting b.state after.state)) steps w))
+
+-- What calls on lines leave as it is.
+
+pub ready_told : (engine : Held) (time : ℕ) (was now : History) → CanServe engine was → now ≡ then_call was (Told time) → CanServe engine now
+ready_told engine time was now k is = subst (CanServe engine) (sym is) (record {
+  unshut = record { came = k.unshut.came; not_shut = k.unshut.not_shut };
+  steps = k.steps;
+  settled = settled_same engine k.steps was (then_call was (Told time)) (same_told was time) k.settled;
+})
+
+pub ready_took : (engine : Held) (l room : ℕ) (bytes : Option (List ℕ)) (was now : History) → CanServe engine was → now ≡ then_call was (Took l room bytes) → CanServe engine now
+ready_took engine l room bytes was now k is = subst (CanServe engine) (sym is) (record {
+  unshut = record { came = k.unshut.came; not_shut = k.unshut.not_shut };
+  steps = k.steps;
+  settled = settled_same engine k.steps was (then_call was (Took l room bytes)) (same_took was l room bytes) k.settled;
+})
+
+pub ready_gave : (engine : Held) (was : History) (gives : List Call) → CanServe engine was → OnlyGives 0 gives → CanServe engine (then_calls was gives)
+ready_gave engine was gives k only = record {
+  unshut = open-gives 0 0 was gives only k.unshut;
+  steps = k.steps;
+  settled = settled_same engine k.steps was (then_calls was gives) (same_gave_all 0 was gives only) k.settled;
+}
+
+-- Where the steps that wait are written, the journal stands at its place.
+placed_at : {d : Option History} (before then : Held) (steps : ℕ) → WhereTold d (CanServe before) → Waits before then steps → (o : Option Keeping) → then.store ≡ o
+    → IfSome o (λ store. IsTrue (is_some store.waiting) → WhereTold d (λ h. (s : Standing) × IsPlaced store.journal h s))
+placed_at before then steps ready waits None is = tt
+placed_at before then steps ready waits (Some store) is = λ some. record {
+  told = λ now told.
+      let s = (ready.told now told).settled in
+      let w = subst (λ (o : Option Keeping). IfSome o (λ k. (waiting : Option Spelled) × (then.store ≡ Some (with_waiting waiting k)) × (count_of waiting ≡ steps) × IsAhead waiting before.state then.state)) s.1 waits in
+      let same : with_waiting w.0 s.0 ≡ store = some_is (with_waiting w.0 s.0) store (sym w.1 ∙ is) in
+      (s.3.standing, subst (λ (k : Keeping). IsPlaced k.journal now s.3.standing) same s.3.placed);
+}
+
+pub placed : {a d : Option History} (before then : Held) (time : ℕ) → WhereTold a (CanServe before) → Tells a d (λ was now. now ≡ then_call was (Told time)) → (steps : ℕ) × Waits before then steps
+    → IfSome then.store (λ store. IsTrue (is_some store.waiting) → WhereTold d (λ h. (s : Standing) × IsPlaced store.journal h s))
+placed before then time ready told waits =
+    placed_at before then waits.0 (known_with_told (CanServe before) ready told (λ was now k is. ready_told before time was now k is)) waits.1 then.store refl

@@ -1,0 +1,37 @@
+-- What is told of one call, or of one span of calls, by several clauses.
+use Rattle.std.proofs.Common.{◌≡◌, List, sym, ap, ◌∙◌, subst}
+use Rattle.std.specs.Prelude.{Option}
+use Rattle.kms_host.specs.History.{History, Tells}
+use Rattle.kms_host.specs.Moment.{Since}
+use Rattle.kms_host.specs.declared.call.Call.{Call}
+use Rattle.kms_core.proofs.StandsLaws.{some_is}
+
+-- two clauses on one call
+pub tells_both : {a b : Option History} {R S : History → History → Type 0} → Tells a b R → Tells a b S → Tells a b (λ was now. R was now × S was now)
+tells_both {S = S} first second = record {
+  told = λ now is.
+      let p = first.told now is in
+      let q = second.told now is in
+      (p.0, p.1, (p.2, subst (λ (h : History). S h now) (some_is q.0 p.0 (sym q.1 ∙ p.1)) q.2));
+}
+
+-- and that no call was made, if so
+pub tells_idle : {a b : Option History} {R : History → History → Type 0} {I : Type 0} → Tells a b R → (I → b ≡ a) → Tells a b (λ was now. R was now × (I → now ≡ was))
+tells_idle first idle = record {
+  told = λ now is.
+      let p = first.told now is in
+      (p.0, p.1, (p.2, λ i. some_is now p.0 (sym is ∙ idle i ∙ p.1)));
+}
+
+-- where no call was made, the same is told
+pub uncalled : {X I P : Type 0} (tells : X → Option History) (new mid old : X) → (I → P × (new ≡ mid)) → mid ≡ old → I → tells new ≡ tells old
+uncalled tells new mid old idle same i = ap tells ((idle i).1) ∙ ap tells same
+
+-- a fact of the begin, beside what is known of the span
+pub since_fact : {a c : Option History} {P : History → List Call → Type 0} {Q : History → Type 0} → Since a c P → Since a c (λ was calls. Q was) → Since a c (λ was calls. P was calls × Q was)
+since_fact {Q = Q} p q = record {
+  told = λ now is.
+      let x = p.told now is in
+      let y = q.told now is in
+      (x.0, x.1, x.2, x.3, (x.4, subst Q (some_is y.0 x.0 (sym y.2 ∙ x.2)) y.4));
+}

@@ -1,0 +1,28 @@
+-- What a run begins with.
+use Rattle.std.specs.Prelude.{ℕ, List}
+use Rattle.kms_host.specs.Disk.{files}
+use Rattle.kms_host.specs.History.{History}
+use Rattle.kms_host.specs.Moment.{then_calls}
+use Rattle.kms_host.specs.declared.call.Call.{Call}
+use Rattle.kms_world.specs.State.{State}
+use Rattle.kms_core.specs.Stands.{Stands}
+
+pub record Base : Type 0 where
+  -- the name of the store
+  pub store : List ℕ
+  -- what was told when the run began
+  pub was : History
+  -- the state for which the store stood then, and after how many steps
+  pub first : State
+  pub steps : ℕ
+
+-- what is told after these calls of the run
+abbrev pub history : Base → List Call → History
+history b calls = then_calls b.was calls
+
+abbrev pub base : (store : List ℕ) → History → State → (steps : ℕ) → Base
+base store was first steps = record { store = store; was = was; first = first; steps = steps }
+
+-- P holds of what a run begins with, where the store of this name stands for a state
+abbrev pub FromStore : List ℕ → History → (Base → Type 0) → Type 0
+FromStore store was P = (first : State) (steps : ℕ) → Stands (files was) first steps → P (base store was first steps)

@@ -1,0 +1,26 @@
+-- What a stop leaves of the store.
+use Rattle.std.specs.Prelude.{ℕ, ◌+◌, ◌≤◌, ◌<◌, List, length, take}
+use Rattle.kms_host.specs.Disk.{IsImage}
+use Rattle.kms_host.specs.Line.{sent}
+use Rattle.kms_host.specs.declared.call.Call.{Call}
+use Rattle.kms_journal.specs.Device.{IsQuietStore}
+use Rattle.kms_core.specs.Stands.{Stands}
+use Rattle.kms_model.specs.declared.event.Mark.{Mark}
+use Rattle.kms_serve.specs.Base.{Base, history}
+use Rattle.kms_serve.specs.Events.{events}
+use Rattle.kms_serve.specs.Replies.{state_by, steps_by, replies, answered_of}
+use Rattle.kms_serve.specs.StoreCalls.{store_failed}
+
+-- The files stand for the state after the first events of the run, so many, and have the steps that those make. Each event
+-- of whose reply a byte was sent, and each before it, is held: if more was sent on a line than the replies to its first k
+-- events, the files have the steps of one event more at least.
+pub record Holds (endpoint : List ℕ) (b : Base) (marks : List Mark) (calls : List Call) (image : List ℕ × List ℕ) : Type 0 where
+  pub count : ℕ
+  pub within : count ≤ length (events calls)
+  pub stands : Stands image (state_by b.first (take count (events calls)) marks) (b.steps + steps_by b.first (take count (events calls)) marks)
+  pub acknowledged : (line k : ℕ) → length (replies line endpoint b.first (take k (answered_of (store_failed calls) (events calls))) marks) < length (sent line calls)
+      → steps_by b.first (take (k + 1) (answered_of (store_failed calls) (events calls))) marks ≤ steps_by b.first (take count (events calls)) marks
+
+-- So do all files that a stop may leave, if nothing was pending when the run began.
+pub record IsSafe (endpoint : List ℕ) (b : Base) (marks : List Mark) (calls : List Call) : Type 0 where
+  pub images : IsQuietStore b.was → (image : List ℕ × List ℕ) → IsImage (history b calls) image → Holds endpoint b marks calls image

@@ -1,0 +1,141 @@
+-- What the command `init` does: it names the store and, where there is none, draws a tag and creates a fresh one.
+use Rattle.std.specs.Prelude.{◌≡◌, ◌⊎◌, ℕ, ◌<◌, ◌/◌, List, [], ◌∷◌, length, Option, Some, None, Result, Ok, Err}
+use Rattle.std.specs.Int.{w64, from_be_bytes}
+use Rattle.kms_host.specs.Disk.{disk, files, IsImage}
+use Rattle.kms_host.specs.History.{History, then_call}
+use Rattle.kms_host.specs.Moment.{AtEach, then_calls}
+use Rattle.kms_host.specs.Store.{apart_from_files, failed_store_calls}
+use Rattle.kms_host.specs.declared.call.Call.{Call}
+use Rattle.kms_host.specs.declared.call.Call.TheVariants.{Attached, Drew}
+use Rattle.kms_host.specs.declared.call.Failed.{Failed}
+use Rattle.kms_host.specs.declared.call.NameFault.{NameFault}
+use Rattle.kms_host.specs.declared.call.NameFault.TheVariants as names
+use Rattle.kms_host.specs.declared.call.Purpose.TheVariants.{Tag}
+use Rattle.kms_world.specs.State.{empty_state}
+use Rattle.kms_journal.specs.Create.{fresh}
+use Rattle.kms_journal.specs.Device.{IsQuietStore}
+use Rattle.kms_journal.specs.Standing.{Standing, standing_of}
+use Rattle.kms_journal.specs.declared.fault.CreateFault.{CreateFault}
+use Rattle.kms_journal.specs.declared.fault.CreateFault.TheVariants as creation
+use Rattle.kms_core.specs.Stands.{Stands}
+use Rattle.kms_serve.specs.declared.status.Status.{Status}
+use Rattle.kms_serve.specs.declared.status.Status.TheVariants as status
+
+-- the tag of a store: the first 60 bits of the eight bytes that were drawn for it
+abbrev pub tag_of : List ℕ → ℕ
+tag_of bytes = from_be_bytes w64 bytes / 16
+
+-- a draw of a tag
+abbrev pub DrawsTag : Result ℕ Failed → History → History → Type 0
+DrawsTag (Ok tag) was now = (bytes : List ℕ) × (length bytes ≡ 8) × (tag ≡ tag_of bytes) × (now ≡ then_call was (Drew Tag (Some bytes)))
+DrawsTag (Err e) was now = now ≡ then_call was (Drew Tag None)
+
+-- the status where the store could not be named, and that of an answer to its creation
+abbrev pub naming_status : NameFault → Status
+naming_status names.Failed = status.StoreFault
+naming_status names.NoMemory = status.NoMemory
+
+abbrev pub creation_status : Result (Unit {0}) CreateFault → Status
+creation_status (Ok done) = status.Done
+creation_status (Err creation.Exists) = status.StoreExists
+creation_status (Err creation.StoreFault) = status.StoreFault
+creation_status (Err creation.NoMemory) = status.NoMemory
+
+-- the files stand for an empty key manager, whose ids have this tag
+abbrev pub IsFreshStore : List ℕ × List ℕ → ℕ → Type 0
+IsFreshStore image tag = Stands image (empty_state tag) 0 × (standing_of image ≡ Some (fresh tag))
+
+-- The calls that are not on a file, the newest first: the store was named, and then bytes were drawn for its tag.
+abbrev pub naming : List ℕ → Result (Unit {0}) NameFault → List Call
+naming store done = Attached store done ∷ []
+
+abbrev pub drawing : List ℕ → Option (List ℕ) → List Call
+drawing store bytes = Drew Tag bytes ∷ Attached store (Ok tt) ∷ []
+
+-- There were no others: nothing was taken, given or shut, and no time told.
+abbrev pub IsAlone : List ℕ → List Call → Type 0
+IsAlone store apart =
+    (apart ≡ []) ⊎ ((done : Result (Unit {0}) NameFault) × (apart ≡ naming store done)) ⊎ ((bytes : Option (List ℕ)) × (apart ≡ drawing store bytes))
+
+-- the files are as before, and what is pending on them
+abbrev pub AreAsBefore : History → List Call → Type 0
+AreAsBefore was calls = (f : ℕ) → disk f (then_calls was calls) ≡ disk f was
+
+abbrev pub IsNoStore : History → Type 0
+IsNoStore was = standing_of (files was) ≡ None
+
+abbrev pub IsStore : History → Type 0
+IsStore was = (s : Standing) × (standing_of (files was) ≡ Some s)
+
+-- After some of the calls. Each crash image stands for what the files did before; or there was no store, a tag was drawn
+-- by then, and the image is a fresh store of this tag. A store that was there is left alone.
+pub record IsUnderWay (store : List ℕ) (was : History) (calls : List Call) : Type 0 where
+  pub alone : IsAlone store (apart_from_files calls)
+  pub images : IsQuietStore was → (image : List ℕ × List ℕ) → IsImage (then_calls was calls) image
+      → (standing_of image ≡ standing_of (files was))
+      ⊎ (IsNoStore was × ((bytes : List ℕ) × (apart_from_files calls ≡ drawing store (Some bytes)) × IsFreshStore image (tag_of bytes)))
+  pub kept : IsStore was → AreAsBefore was calls
+
+-- There was no store. Eight bytes were drawn, and the files as they read now are a fresh store of their tag.
+pub record IsCreated (store : List ℕ) (was : History) (calls : List Call) : Type 0 where
+  pub none : IsNoStore was
+  pub bytes : List ℕ
+  pub eight : length bytes ≡ 8
+  pub drawn : apart_from_files calls ≡ drawing store (Some bytes)
+  pub fresh : IsFreshStore (files (then_calls was calls)) (tag_of bytes)
+  pub quiet : IsQuietStore was → IsQuietStore (then_calls was calls)
+
+-- There was no store, drawing its tag failed, and the files are as before.
+pub record IsUndrawn (store : List ℕ) (was : History) (calls : List Call) : Type 0 where
+  pub none : IsNoStore was
+  pub failed : apart_from_files calls ≡ drawing store None
+  pub kept : AreAsBefore was calls
+
+-- What a status says of the calls.
+abbrev pub IsInitEnd : List ℕ → Status → History → List Call → Type 0
+IsInitEnd store status.Done was calls = IsCreated store was calls
+IsInitEnd store status.StoreExists was calls = IsStore was × (apart_from_files calls ≡ naming store (Ok tt))
+IsInitEnd store status.StoreFault was calls = 0 < failed_store_calls calls
+IsInitEnd store status.DrawFault was calls = IsUndrawn store was calls
+IsInitEnd store status.NoMemory was calls = Unit {0}
+IsInitEnd store status.Words was calls = ⊥
+IsInitEnd store status.NoStore was calls = ⊥
+IsInitEnd store status.LinkFault was calls = ⊥
+IsInitEnd store (status.Rest place) was calls = ⊥
+IsInitEnd store (status.Unreadable place) was calls = ⊥
+IsInitEnd store (status.Damaged place) was calls = ⊥
+
+-- A run of `init` that ended so and made these calls, the newest first. A call of the store failed exactly where that is
+-- the status.
+pub record Inits (store : List ℕ) (s : Status) (was : History) (calls : List Call) : Type 0 where
+  pub each : AtEach (IsUnderWay store was) calls
+  pub end : IsInitEnd store s was calls
+  pub faultless : (s ≡ status.StoreFault → ⊥) → failed_store_calls calls ≡ 0
+
+-- what creating a store can end with
+abbrev pub IsInitStatus : Status → Type 0
+IsInitStatus status.Done = Unit {0}
+IsInitStatus status.StoreExists = Unit {0}
+IsInitStatus status.NoMemory = Unit {0}
+IsInitStatus status.StoreFault = Unit {0}
+IsInitStatus status.DrawFault = Unit {0}
+IsInitStatus status.Words = ⊥
+IsInitStatus status.NoStore = ⊥
+IsInitStatus status.LinkFault = ⊥
+IsInitStatus (status.Rest place) = ⊥
+IsInitStatus (status.Unreadable place) = ⊥
+IsInitStatus (status.Damaged place) = ⊥
+
+-- no call of the store failed and none that draws: there is a store now, or the run was out of memory
+abbrev pub IsInitDone : Status → Type 0
+IsInitDone status.Done = Unit {0}
+IsInitDone status.StoreExists = Unit {0}
+IsInitDone status.NoMemory = Unit {0}
+IsInitDone status.StoreFault = ⊥
+IsInitDone status.DrawFault = ⊥
+IsInitDone status.Words = ⊥
+IsInitDone status.NoStore = ⊥
+IsInitDone status.LinkFault = ⊥
+IsInitDone (status.Rest place) = ⊥
+IsInitDone (status.Unreadable place) = ⊥
+IsInitDone (status.Damaged place) = ⊥
