@@ -1,4 +1,5 @@
-//! barbicand: a key manager that speaks the OpenStack Barbican API v1 over standard input and output.
+//! barbicand: a key manager that keeps a store in two files and speaks the OpenStack Barbican API v1 over standard input
+//! and output.
 #![tactic(auto)]
 
 use kms_host::PipeHost;
