@@ -1,17 +1,20 @@
 #!/usr/bin/env python3
-"""Requests a second of `pipe`, and its peak memory: 10,000 POSTs and then 10,000 GETs in one stream.
+"""Requests a second of `pipe` over a store on this disk, and its peak memory: POSTs, each of which waits for its two syncs,
+and then GETs in a second process.
 
 Run by hand at the top of the repository, after ./quickstart has built the program:
 
-    python3 bench/pipe.py [COUNT]
+    python3 bench/pipe.py [POSTS [GETS]]
 """
+import re
 import resource
 import subprocess
 import sys
+import tempfile
 import time
+from pathlib import Path
 
-PROGRAM = "crates/barbicand/out/barbicand"
-WORDS = ["pipe", "--store", "s", "--keys", "k", "--endpoint", "http://k/v1"]
+PROGRAM = Path("crates/barbicand/out/barbicand").resolve()
 FIELDS = b"X-Project-Id: p1\r\nX-User-Id: u1\r\nX-Roles: creator\r\n"
 
 
@@ -21,28 +24,32 @@ def post(number: int) -> bytes:
     return head + b"Content-Length: %d\r\n\r\n" % len(body) + body
 
 
-def get(number: int) -> bytes:
-    return b"GET /v1/secrets/01234567-89ab-8cde-8000-%012x HTTP/1.1\r\n" % number + FIELDS + b"\r\n"
+def get(secret: bytes) -> bytes:
+    return b"GET /v1/secrets/" + secret + b" HTTP/1.1\r\n" + FIELDS + b"\r\n"
 
 
-def run(stream: bytes) -> tuple[float, bytes]:
+def pipe(store: Path, stream: bytes) -> tuple[float, bytes]:
+    words = ["pipe", "--store", str(store), "--keys", "k", "--endpoint", "http://k/v1"]
     start = time.monotonic()
-    done = subprocess.run([PROGRAM, *WORDS], input=stream, capture_output=True, check=True)
+    done = subprocess.run([PROGRAM, *words], input=stream, capture_output=True, check=True)
     return time.monotonic() - start, done.stdout
 
 
 def main() -> None:
-    count = int(sys.argv[1]) if len(sys.argv) > 1 else 10_000
-    posts = b"".join(post(k) for k in range(count))
-    gets = b"".join(get(k) for k in range(count))
-    posting, replies = run(posts)
-    assert replies.count(b"201 Created") == count
-    both, replies = run(posts + gets)
-    assert replies.count(b"200 OK") == count
+    posts = int(sys.argv[1]) if len(sys.argv) > 1 else 1_000
+    gets = int(sys.argv[2]) if len(sys.argv) > 2 else 10_000
+    with tempfile.TemporaryDirectory(dir=".") as folder:
+        store = Path(folder) / "s"
+        subprocess.run([PROGRAM, "init", "--store", str(store)], check=True)
+        posting, replies = pipe(store, b"".join(post(k) for k in range(posts)))
+        secrets = re.findall(rb"/v1/secrets/([0-9a-f-]{36})", replies)
+        assert len(secrets) == posts
+        getting, replies = pipe(store, b"".join(get(secrets[k % posts]) for k in range(gets)))
+        assert replies.count(b"200 OK") == gets
     peak = resource.getrusage(resource.RUSAGE_CHILDREN).ru_maxrss
-    print(f"POST  {count / posting:10.0f} requests a second")
-    print(f"GET   {count / (both - posting):10.0f} requests a second, each a walk over a list of {count} rows")
-    print(f"peak memory {peak / 1024:.1f} MiB, for {count} secrets and {len(posts + gets) / 2**20:.1f} MiB of requests")
+    print(f"POST  {posts / posting:10.0f} requests a second, each with its two syncs")
+    print(f"GET   {gets / getting:10.0f} requests a second, each a walk over a list of {posts} rows, with the opening")
+    print(f"peak memory {peak / 1024:.1f} MiB")
 
 
 if __name__ == "__main__":
