@@ -11,7 +11,7 @@ use Rattle.kms_record.specs.Grammar.{IsSnapshot}
 use Rattle.kms_journal.specs.Create.{no_changes}
 use Rattle.kms_journal.specs.declared.chain.Chain.{Chain}
 use Rattle.kms_core.specs.Stands.{Applies, LeadTo, IsBroken, BreakAt, kept_first}
-use Rattle.kms_core.specs.Loading.{HasBegun, IsBrokenAt, is_begun}
+use Rattle.kms_core.specs.Loading.{HasEmptySnapshot, IsBrokenAt, is_empty_snapshot}
 
 -- what is left leads where all do, and breaks where all do
 pub record Continues (all rest : List (ℕ × List ℕ)) (first now : Kept) : Type 0 where
@@ -31,9 +31,9 @@ base_is : (base : List ℕ) → IsSnapshot base [] → base ≡ no_changes
 unfolding u64_bytes
 base_is base is = is.spelled
 
-pub begun : (chain : Chain) → is_begun chain ≡ true → HasBegun chain
+pub empty_snapshot : (chain : Chain) → is_empty_snapshot chain ≡ true → HasEmptySnapshot chain
 unfolding u64_bytes
-begun chain is =
+empty_snapshot chain is =
     let outer = and_parts (nat_lt chain.tag (2 ^ 60) && nat_le chain.ids (2 ^ 62)) (bytes_eq chain.base no_changes) is in
     let inner = and_parts (nat_lt chain.tag (2 ^ 60)) (nat_le chain.ids (2 ^ 62)) outer.0 in
     record {
@@ -42,14 +42,14 @@ begun chain is =
       nothing = record { spelled = (bytes_eq-Decides chain.base no_changes).0 outer.1; admitted = record { few = omega arith; each = tt } };
     }
 
-pub not_begun : (chain : Chain) → is_begun chain ≡ false → HasBegun chain → ⊥
-not_begun chain not has =
+pub not_empty_snapshot : (chain : Chain) → is_empty_snapshot chain ≡ false → HasEmptySnapshot chain → ⊥
+not_empty_snapshot chain not has =
     let first : nat_lt chain.tag (2 ^ 60) ≡ true = le-leb _ _ has.tag_fits in
     let second : nat_le chain.ids (2 ^ 62) ≡ true = le-leb _ _ has.ids_fit in
     let third : bytes_eq chain.base no_changes ≡ true = (bytes_eq-Decides chain.base no_changes).1 (base_is chain.base has.nothing) in
     false≢true (sym not ∙ (rw (first, second, third) refl))
 
-pub broken_item : (chain : Chain) (items : List (ℕ × List ℕ)) (i : ℕ) (item : ℕ × List ℕ) (bytes : List ℕ) (now : Kept) → HasBegun chain → items ≡ chain.bodies
+pub broken_item : (chain : Chain) (items : List (ℕ × List ℕ)) (i : ℕ) (item : ℕ × List ℕ) (bytes : List ℕ) (now : Kept) → HasEmptySnapshot chain → items ≡ chain.bodies
     → Continues chain.bodies (drop i chain.bodies) (kept_first chain.tag chain.ids) now → item ≡ get_or items i item → i < length items → bytes ≡ item.1 → IsBroken bytes now → IsBrokenAt chain item.0
 broken_item chain items i item bytes now has same c is lt bytes_is broken =
     let rest = drop (i + 1) chain.bodies in

@@ -69,7 +69,7 @@ unbroken (item ∷ items) stop place is_whole kept after whole p (inr later) =
     unbroken items stop place is_whole later.0 after whole (subst (λ (k : Kept). LeadTo items k after) (applies_once item.1 kept p.0 later.0 p.1 later.1) p.2) later.2
 
 pub undamaged : (s : Standing) (kept : Kept) (place : ℕ) → KeptOf s kept → IsDamagedAt s place → ⊥
-undamaged s kept place p (inl not) = not.0 p.begun
+undamaged s kept place p (inl not) = not.0 p.empty_snapshot
 undamaged s kept place p (inr broken) = unbroken s.records s.stop place s.is_whole (kept_first s.tag s.ids) kept p.whole p.records broken.1
 
 no_changes_snapshot : IsSnapshot no_changes []
@@ -79,7 +79,7 @@ no_changes_snapshot = record { spelled = refl; admitted = record { few = omega a
 pub fresh_kept : (tag : ℕ) → tag < 2 ^ 60 → KeptOf (fresh tag) (kept_as (empty_state tag))
 fresh_kept tag lt = record {
   whole = refl;
-  begun = record { tag_fits = lt; ids_fit = omega arith; nothing = no_changes_snapshot };
+  empty_snapshot = record { tag_fits = lt; ids_fit = omega arith; nothing = no_changes_snapshot };
   records = refl;
 }
 
@@ -92,7 +92,7 @@ pub record_leads : (s : Standing) (before after : Kept) (steps : List (List Chan
 record_leads s before after steps kept admitted short leads =
     let bytes = record_bytes steps in
     let last : Applies (record_in (1 ∷ frame bytes)) before after = record { steps = steps; read = record { spelled = frame_holds bytes short; admitted = admitted }; leads = leads } in
-    record { whole = kept.whole; begun = kept.begun; records = lead_on s.records (s.stop, record_in (1 ∷ frame bytes)) (kept_first s.tag s.ids) before after kept.records last }
+    record { whole = kept.whole; empty_snapshot = kept.empty_snapshot; records = lead_on s.records (s.stop, record_in (1 ∷ frame bytes)) (kept_first s.tag s.ids) before after kept.records last }
 
 more_steps : (items : List (ℕ × List ℕ)) (item : ℕ × List ℕ) (n : ℕ) (steps : List (List Change)) → HaveSteps items n → IsRecord item.1 steps → HaveSteps (items ++ item ∷ []) (n + length steps)
 more_steps [] item n steps none is = (steps, 0, is, refl, omega (arith, none))

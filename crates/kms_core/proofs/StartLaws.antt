@@ -115,7 +115,7 @@ module _ (p : Position) (was mid now : History) (o : OpensJournal (Ok p) was mid
         let s = o.answer.0 in
         let g = gathers s o.answer.2 in
         let loads : Loads (chain_of s) (Ok kept) = subst (λ (c : Chain). Loads c (Ok kept)) g.answer l in
-        let keeps : KeptOf s kept = record { whole = o.answer.2.whole; begun = loads.0; records = loads.1 } in
+        let keeps : KeptOf s kept = record { whole = o.answer.2.whole; empty_snapshot = loads.0; records = loads.1 } in
         let steps = kept_counts s kept keeps in
         let now_placed = placed_after p s mid now g.throughout o.answer.2 in
         subst (λ (x : Held). Starts (Ok x) was now) (sym is) (record {

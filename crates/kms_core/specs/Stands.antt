@@ -25,7 +25,7 @@ abbrev pub kept_first : ℕ → ℕ → Kept
 kept_first tag ids = record { state = record (empty_state tag) { ids = ids } }
 
 -- The tag and the number of ids are in range, and the snapshot is the one with no changes.
-pub record IsBegun (tag ids : ℕ) (snapshot : List ℕ) : Type 0 where
+pub record IsEmptySnapshot (tag ids : ℕ) (snapshot : List ℕ) : Type 0 where
   pub tag_fits : tag < 2 ^ 60
   pub ids_fit : ids ≤ 2 ^ 62
   pub nothing : IsSnapshot snapshot []
@@ -33,7 +33,7 @@ pub record IsBegun (tag ids : ℕ) (snapshot : List ℕ) : Type 0 where
 -- What a store's standing keeps: what its records lead to, from the snapshot on.
 pub record KeptOf (s : Standing) (kept : Kept) : Type 0 where
   pub whole : s.is_whole ≡ true
-  pub begun : IsBegun s.tag s.ids s.snapshot
+  pub empty_snapshot : IsEmptySnapshot s.tag s.ids s.snapshot
   pub records : LeadTo s.records (kept_first s.tag s.ids) kept
 
 -- the records have so many steps
@@ -67,5 +67,5 @@ BreakAt (item ∷ items) stop is_whole kept place =
 -- the first place, in a store's current file, at which what it keeps is damaged: 0 for the header and the snapshot
 abbrev pub IsDamagedAt : Standing → ℕ → Type 0
 IsDamagedAt s place =
-    (¬ IsBegun s.tag s.ids s.snapshot × (place ≡ 0))
-    ⊎ (IsBegun s.tag s.ids s.snapshot × BreakAt s.records s.stop s.is_whole (kept_first s.tag s.ids) place)
+    (¬ IsEmptySnapshot s.tag s.ids s.snapshot × (place ≡ 0))
+    ⊎ (IsEmptySnapshot s.tag s.ids s.snapshot × BreakAt s.records s.stop s.is_whole (kept_first s.tag s.ids) place)

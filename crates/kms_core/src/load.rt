@@ -1,6 +1,6 @@
 // The rows of a store.
 ghost use Rattle.std.specs.Prelude.{◌≡◌};
-ghost use Rattle.kms_core.specs.Loading.{Loads, Refuses, is_begun};
+ghost use Rattle.kms_core.specs.Loading.{Loads, Refuses, is_empty_snapshot};
 
 use crate::StartFault;
 use crate::rows::{Rows, RowsFault};
@@ -10,8 +10,8 @@ use std::alloc::Global;
 // The snapshot with no changes: their number, in 8 bytes.
 const NO_CHANGES: [u8; 8] = [0; 8];
 
-fn is_begun(chain: &Chain) -> bool
-    ensures { result ≡ is_begun chain.now }
+fn is_empty_snapshot(chain: &Chain) -> bool
+    ensures { result ≡ is_empty_snapshot chain.now }
 {
     chain.tag < 1 << 60 && chain.ids <= 1 << 62 && chain.base.as_slice() == NO_CHANGES.as_slice()
 }
@@ -29,7 +29,7 @@ fn damaged(chain: &Chain, at: u64) -> StartFault
 pub(crate) fn load(alloc: Global, chain: &Chain) -> Result<Rows, StartFault>
     ensures { Loads chain.now result }
 {
-    if !is_begun(chain) {
+    if !is_empty_snapshot(chain) {
         return Err(damaged(chain, 0));
     }
     let mut rows = Rows::new(alloc, chain.tag, chain.ids);

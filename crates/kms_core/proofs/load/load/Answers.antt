@@ -1,16 +1,16 @@
 use Rattle.std.proofs.Common.{sym, ◌∙◌, inl, refl}
-use Rattle.kms_core.proofs.LoadLaws.{begun, not_begun, broken_item, all_loaded}
+use Rattle.kms_core.proofs.LoadLaws.{empty_snapshot, not_empty_snapshot, broken_item, all_loaded}
 use Rattle.kms_core.proofs.load.load.Goals as goal
 
-pub returns-then-not-is_begun : goal.returns-then-not-is_begun
-returns-then-not-is_begun c =
+pub returns-then-not-is_empty_snapshot : goal.returns-then-not-is_empty_snapshot
+returns-then-not-is_empty_snapshot c =
     let chain = c.args.chain.now in
-    rw c.damaged.ensures (0, refl, inl (not_begun chain (sym c.is_begun.ensures ∙ c.if-not-is_begun.true), refl))
+    rw c.damaged.ensures (0, refl, inl (not_empty_snapshot chain (sym c.is_empty_snapshot.ensures ∙ c.if-not-is_empty_snapshot.true), refl))
 
 pub returns-in-Err-Broken : goal.returns-in-Err-Broken
 returns-in-Err-Broken c =
     let chain = c.args.chain.now in
-    let has = begun chain (sym c.is_begun.ensures ∙ c.if-not-is_begun.false) in
+    let has = empty_snapshot chain (sym c.is_empty_snapshot.ensures ∙ c.if-not-is_empty_snapshot.false) in
     let item = c.loop-at-item.result in
     rw c.damaged-in-Err-Broken.ensures (
       item.0,
@@ -21,6 +21,6 @@ returns-in-Err-Broken c =
 
 pub returns : goal.returns
 returns c = (
-  begun c.args.chain.now (sym c.is_begun.ensures ∙ c.if-not-is_begun.false),
+  empty_snapshot c.args.chain.now (sym c.is_empty_snapshot.ensures ∙ c.if-not-is_empty_snapshot.false),
   all_loaded c.args.chain.now c.as_slice-at-items.result.now c.loop-at.at-index c.loop-at.rows c.as_slice-at-items.ensures c.loop-at-test.false c.loop-at.invariant,
 )
