@@ -17,7 +17,7 @@ use Rattle.kms_world.specs.State.{State}
 use Rattle.kms_core.specs.Stands.{Stands}
 use Rattle.kms_core.specs.Steps.{Held, IsSettled}
 use Rattle.kms_model.specs.declared.event.Mark.{Mark}
-use Rattle.kms_serve.specs.Base.{Base, history}
+use Rattle.kms_serve.specs.RunStart.{RunStart, history}
 use Rattle.kms_serve.specs.Crash.{Holds, IsSafe}
 use Rattle.kms_serve.specs.Events.{LineEvent, events}
 use Rattle.kms_serve.specs.Opening.{IsAsBefore}
@@ -66,7 +66,7 @@ same_gave_all line h (OnFile file c ∷ gives) only = absurd only
 same_gave_all line h (Told t ∷ gives) only = absurd only
 same_gave_all line h (Drew purpose bytes ∷ gives) only = absurd only
 
-pub same_gives : (line : ℕ) (b : Base) (gives calls : List Call) → OnlyGives line gives → Same (history b calls) (history b (gives ++ calls))
+pub same_gives : (line : ℕ) (b : RunStart) (gives calls : List Call) → OnlyGives line gives → Same (history b calls) (history b (gives ++ calls))
 same_gives line b gives calls only =
     subst (Same (history b calls)) (sym (then_calls-append b.was gives calls)) (same_gave_all line (history b calls) gives only)
 
@@ -133,13 +133,13 @@ pub stands_as : (two : List ℕ × List ℕ) (s t : State) (m n : ℕ) → s ≡
 stands_as two s t m n state steps p = subst (λ (k : ℕ). Stands two t k) steps (subst (λ (x : State). Stands two x m) state p)
 
 -- The files have at least the steps of all events that are answered.
-pub record Keeps (b : Base) (marks : List Mark) (calls : List Call) (image : List ℕ × List ℕ) : Type 0 where
+pub record Keeps (b : RunStart) (marks : List Mark) (calls : List Call) (image : List ℕ × List ℕ) : Type 0 where
   pub count : ℕ
   pub within : count ≤ length (events calls)
   pub stands : Stands image (state_by b.first (take count (events calls)) marks) (b.steps + steps_by b.first (take count (events calls)) marks)
   pub all : steps_by b.first (answered_of (store_failed calls) (events calls)) marks ≤ steps_by b.first (take count (events calls)) marks
 
-pub holds : (endpoint : List ℕ) (b : Base) (marks : List Mark) (calls : List Call) (image : List ℕ × List ℕ) → Keeps b marks calls image → Holds endpoint b marks calls image
+pub holds : (endpoint : List ℕ) (b : RunStart) (marks : List Mark) (calls : List Call) (image : List ℕ × List ℕ) → Keeps b marks calls image → Holds endpoint b marks calls image
 holds endpoint b marks calls image k = record {
   count = k.count;
   within = k.within;
@@ -148,13 +148,13 @@ holds endpoint b marks calls image k = record {
 }
 
 -- every crash image does
-abbrev pub AllKeep : Base → List Mark → List Call → Type 0
+abbrev pub AllKeep : RunStart → List Mark → List Call → Type 0
 AllKeep b marks calls = IsQuietStore b.was → (image : List ℕ × List ℕ) → IsImage (history b calls) image → Keeps b marks calls image
 
-pub safe : (endpoint : List ℕ) (b : Base) (marks : List Mark) (calls : List Call) → AllKeep b marks calls → IsSafe endpoint b marks calls
+pub safe : (endpoint : List ℕ) (b : RunStart) (marks : List Mark) (calls : List Call) → AllKeep b marks calls → IsSafe endpoint b marks calls
 safe endpoint b marks calls keep = record { images = λ quiet image is. holds endpoint b marks calls image (keep quiet image is) }
 
-pub keep_on : (b : Base) (marks : List Mark) (was now : List Call) → events now ≡ events was → store_failed now ≡ store_failed was
+pub keep_on : (b : RunStart) (marks : List Mark) (was now : List Call) → events now ≡ events was → store_failed now ≡ store_failed was
     → Same (history b was) (history b now) → AllKeep b marks was → AllKeep b marks now
 keep_on b marks was now same failed calls keep = λ quiet image is.
     let k = keep quiet image (image_same (history b was) (history b now) image calls is) in
@@ -166,7 +166,7 @@ keep_on b marks was now same failed calls keep = λ quiet image is.
     }
 
 -- where all is settled
-pub settled_keep : (b : Base) (marks : List Mark) (engine : Held) (calls : List Call) → (IsQuietStore b.was → IsQuietStore (history b calls)) → store_failed calls ≡ false
+pub settled_keep : (b : RunStart) (marks : List Mark) (engine : Held) (calls : List Call) → (IsQuietStore b.was → IsQuietStore (history b calls)) → store_failed calls ≡ false
     → engine.state ≡ state_by b.first (events calls) marks → IsSettled engine (b.steps + steps_by b.first (events calls) marks) (history b calls) → AllKeep b marks calls
 settled_keep b marks engine calls quiet unfailed state settled = λ was_quiet image is.
     let h = history b calls in
@@ -183,7 +183,7 @@ settled_keep b marks engine calls quiet unfailed state settled = λ was_quiet im
     }
 
 -- marks of later events change nothing
-pub safe-marks : (endpoint : List ℕ) (b : Base) (marks more : List Mark) (calls : List Call) → length (events calls) ≤ length marks → IsSafe endpoint b marks calls → IsSafe endpoint b (marks ++ more) calls
+pub safe-marks : (endpoint : List ℕ) (b : RunStart) (marks more : List Mark) (calls : List Call) → length (events calls) ≤ length marks → IsSafe endpoint b marks calls → IsSafe endpoint b (marks ++ more) calls
 safe-marks endpoint b marks more calls within s = record {
   images = λ quiet image is.
       let h = s.images quiet image is in
@@ -206,7 +206,7 @@ safe-marks endpoint b marks more calls within s = record {
 
 -- While the newest event is settled: the files stand for the state before it or for the one after it, and all other replies
 -- were given whole.
-module _ (endpoint : List ℕ) (b : Base) (es : List LineEvent) (ms : List Mark) (e : LineEvent) (m : Mark) (calls : List Call) (image : List ℕ × List ℕ)
+module _ (endpoint : List ℕ) (b : RunStart) (es : List LineEvent) (ms : List Mark) (e : LineEvent) (m : Mark) (calls : List Call) (image : List ℕ × List ℕ)
     (same : events calls ≡ es ++ e ∷ []) (marked : length es ≡ length ms) where
   abbrev pub marks : List Mark
   marks = ms ++ m ∷ []

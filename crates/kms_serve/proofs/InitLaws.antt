@@ -159,7 +159,7 @@ creating store tag was x low ready z n =
       alone = inr (inr (Some ready.bytes, apart));
       images = λ quiet image is. elim (n.images (still_quiet was x r.same quiet) image (subst (λ (h : History). IsImage h image) (then_calls-append was z x) is)) [
         | inl same ↦ inl (same ∙ before)
-        | inr made ↦ inr (ready.none, (ready.bytes, apart, subst (IsFreshStore image) ready.tag_is (fresh_stands image tag low made.1)))
+        | inr made ↦ inr (ready.none, (ready.bytes, ready.eight, apart, subst (IsFreshStore image) ready.tag_is (fresh_stands image tag low made.1)))
       ];
       kept = λ s. let no : None ≡ Some s.0 = sym ready.none ∙ s.1 in cc;
     }
@@ -175,7 +175,7 @@ not_named store fault was calls is = record { each = (named store (Err fault) wa
 
     by_fault : (f : NameFault) (l : List Call) → l ≡ Attached store (Err f) ∷ [] → IsInitEnd store (naming_status f) was l
     by_fault names.Failed l e = subst (λ (k : List Call). 0 < failed_store_calls k) (sym e) (lit< tt)
-    by_fault names.NoMemory l e = tt
+    by_fault names.NoMemory l e = e
 
 alone_named : (store : List ℕ) → IsAlone store (naming store (Ok tt))
 alone_named store = inr (inl (Ok tt, refl))
@@ -265,7 +265,7 @@ creation_ends store tag was x y (Ok done) low ready made alone fails =
 creation_ends store tag was x y (Err creation.Exists) low ready made alone fails =
     let no : None ≡ Some made.0 = sym (ap standing_of (same_files was x ready.reached.same) ∙ ready.none) ∙ made.1 in cc
 creation_ends store tag was x y (Err creation.StoreFault) low ready made alone fails = fault_between (then_calls was x) y x fails
-creation_ends store tag was x y (Err creation.NoMemory) low ready made alone fails = tt
+creation_ends store tag was x y (Err creation.NoMemory) low ready made alone fails = absurd made
 
 creation_faultless : (result : Result (Unit {0}) CreateFault) (mid : History) (y x : List Call) → Fails (is_failed_creation result) mid (then_calls mid y) → failed_store_calls x ≡ 0
     → (creation_status result ≡ status.StoreFault → ⊥) → failed_store_calls (y ++ x) ≡ 0

@@ -24,7 +24,7 @@ use Rattle.kms_core.proofs.StandsLaws.{one_state, some_is, undamaged}
 use Rattle.kms_host.specs.Store.{apart_from_files, others}
 use Rattle.kms_host.proofs.Moments.{at_last}
 use Rattle.kms_serve.specs.Answered.{Answered, InTurn}
-use Rattle.kms_serve.specs.Base.{Base, base, FromStore, history}
+use Rattle.kms_serve.specs.RunStart.{RunStart, run_start, FromStore, history}
 use Rattle.kms_serve.specs.Events.{events}
 use Rattle.kms_serve.specs.Opening.{IsRefused, IsAsBefore, IsOpening, IsUnopened, IsOpenedBy, Opens, refusal_of}
 use Rattle.kms_serve.specs.Owing.{GoodAt, EndedAt}
@@ -170,7 +170,7 @@ ready_opened store engine unshut attached starts =
     (λ was now k. k)
 
 -- At each moment of an opening nothing was asked and nothing was sent.
-module _ (endpoint : List ℕ) (b : Base) (stands : Stands (files b.was) b.first b.steps) where
+module _ (endpoint : List ℕ) (b : RunStart) (stands : Stands (files b.was) b.first b.steps) where
   nothing : (line : ℕ) (on_files : List Call) (done : Result (Unit {0}) NameFault) → OnlyFiles on_files → sent line (on_files ++ Attached b.store done ∷ []) ≡ []
   nothing line on_files done only = same_by_files (sent line) (λ file c calls. refl) on_files (Attached b.store done ∷ []) only
 
@@ -214,6 +214,7 @@ module _ (endpoint : List ℕ) (b : Base) (stands : Stands (files b.was) b.first
         (record {
           given = λ line. nothing line on_files done only ∙ sym (ap (λ es. replies line endpoint b.first (before_newest es) []) (no_events on_files done only));
           needed = inl (done, same_by_files apart_from_files (λ f d calls. refl) on_files (Attached b.store done ∷ []) only);
+          sound = same_by_files (failed_on 0) (λ f d calls. refl) on_files (Attached b.store done ∷ []) only;
         }) tt each.0,
     opening_each on_files done only each.1,
   )
@@ -221,10 +222,10 @@ module _ (endpoint : List ℕ) (b : Base) (stands : Stands (files b.was) b.first
   opening_each (Drew purpose bytes ∷ on_files) done only each = absurd only
 
 each_of : (endpoint store : List ℕ) (was : History) (first : State) (steps : ℕ) (calls : List Call) → Stands (files was) first steps → (o : IsOpening store was calls)
-    → AtEach (Answered endpoint (base store was first steps) []) calls
+    → AtEach (Answered endpoint (run_start store was first steps) []) calls
 each_of endpoint store was first steps calls stands o =
-    subst (AtEach (Answered endpoint (base store was first steps) [])) (sym o.made)
-    (opening_each endpoint (base store was first steps) stands o.on_files o.done o.only (subst (AtEach (λ x. IsAsBefore was (then_calls was x))) o.made o.each))
+    subst (AtEach (Answered endpoint (run_start store was first steps) [])) (sym o.made)
+    (opening_each endpoint (run_start store was first steps) stands o.on_files o.done o.only (subst (AtEach (λ x. IsAsBefore was (then_calls was x))) o.made o.each))
 
 -- what no opening does
 same_opening : {A : Type 0} (F : List Call → A) (store : List ℕ) (was : History) (calls : List Call) → ((file : ℕ) (c : FileCall) (x : List Call) → F (OnFile file c ∷ x) ≡ F x)
@@ -270,7 +271,7 @@ ended_unopened endpoint store s was calls u first steps stands = by_status s u.w
     unfinished : at_end 0 calls ≡ false
     unfinished = same_opening (at_end 0) store was calls (λ file c x. refl) u.opening
 
-    by_status : (s : Status) → IsRefused s was calls → EndedAt endpoint (base store was first steps) s calls
+    by_status : (s : Status) → IsRefused s was calls → EndedAt endpoint (run_start store was first steps) s calls
     by_status status.NoStore why = let no : None ≡ Some stands.standing = sym why.0 ∙ stands.current in absurd (cc)
     by_status (status.Damaged place) why =
         let d = why.0 in
@@ -289,7 +290,13 @@ ended_unopened endpoint store s was calls u first steps stands = by_status s u.w
       marks = [];
       each = each_of endpoint store was first steps calls stands u.opening;
       marked = ap length none;
-      end = (unfinished, why);
+      end = (
+        λ line. same_opening (sent line) store was calls (λ file c x. refl) u.opening ∙ sym (ap (λ es. replies line endpoint first es []) none),
+        ([], rw (none, same_opening (taken 0) store was calls (λ file c x. refl) u.opening) (after-first [] refl)),
+        unfinished,
+        same_opening (failed_on 0) store was calls (λ file c x. refl) u.opening,
+        why,
+      );
     }
     by_status status.Done why = absurd why
     by_status status.Words why = absurd why

@@ -25,7 +25,7 @@ use Rattle.kms_http.specs.Stream.Front.{Bad, Part}
 use Rattle.kms_http.specs.Stream.After.{Going, Over, Broken}
 use Rattle.kms_http.specs.Stream.Served.{Unreadable}
 use Rattle.kms_http.specs.declared.fault.FaultReply.TheVariants.{F1}
-use Rattle.kms_serve.specs.Base.{Base, history}
+use Rattle.kms_serve.specs.RunStart.{RunStart, history}
 use Rattle.kms_serve.specs.Events.{LineEvent, events, event, event_at, most}
 use Rattle.kms_serve.specs.Replies.{asked, state_by, steps_by, reply_to, replies, before_newest, fault_on, due}
 use Rattle.kms_serve.specs.Answered.{Answered, InTurn, IsReady, IsNext, IsOver, IsServed, IsBetween}
@@ -44,7 +44,7 @@ use Rattle.kms_serve.proofs.ReplyLaws.{state_by-more, steps_by-more, steps_by-ma
 use Rattle.kms_serve.proofs.StoreCallLaws.{same_by_files, store_failed-append, store_failed-gives}
 use Rattle.kms_http.proofs.StreamLaws.{after-more}
 
-turn_marks : (endpoint : List ℕ) (b : Base) (marks more : List Mark) (calls : List Call) → length (events calls) ≤ length marks
+turn_marks : (endpoint : List ℕ) (b : RunStart) (marks more : List Mark) (calls : List Call) → length (events calls) ≤ length marks
     → InTurn endpoint b marks calls → InTurn endpoint b (marks ++ more) calls
 turn_marks endpoint b marks more [] within h = tt
 turn_marks endpoint b marks more (Took l n bytes ∷ calls) within h = record {
@@ -79,6 +79,7 @@ turn_marks endpoint b marks more (OnFile file c ∷ calls) within h =
         | inl opening ↦ inl opening
         | inr step ↦ inr (omega (arith, step, steps_by-marks b.first (before_newest (events calls)) marks more fewer, steps_by-marks b.first (events calls) marks more within))
       ];
+      sound = h.sound;
     }
 turn_marks endpoint b marks more (Drew purpose bytes ∷ calls) within h = absurd h
 turn_marks endpoint b marks more (Told t ∷ calls) within h =
@@ -87,7 +88,7 @@ turn_marks endpoint b marks more (Told t ∷ calls) within h =
     record { given = λ line. h.given line ∙ sym (replies-marks line endpoint b.first (events calls) marks more fewer); unfailed = h.unfailed }
 
 -- marks of later events change nothing that was said of earlier moments
-answered_marks : (endpoint : List ℕ) (b : Base) (marks more : List Mark) (calls : List Call) → Answered endpoint b marks calls → Answered endpoint b (marks ++ more) calls
+answered_marks : (endpoint : List ℕ) (b : RunStart) (marks more : List Mark) (calls : List Call) → Answered endpoint b marks calls → Answered endpoint b (marks ++ more) calls
 answered_marks endpoint b marks more calls a = record {
   within = omega (arith, a.within, length-append marks more);
   timed = a.timed;
@@ -100,15 +101,15 @@ answered_marks endpoint b marks more calls a = record {
 }
 
 -- where nothing is owed, all replies were given
-pub all_given : (endpoint : List ℕ) (b : Base) (s : Serving) (now : After) (calls : List Call) → (o : OwingAt endpoint b s now [] calls) → AllGiven endpoint b o.marks calls
+pub all_given : (endpoint : List ℕ) (b : RunStart) (s : Serving) (now : After) (calls : List Call) → (o : OwingAt endpoint b s now [] calls) → AllGiven endpoint b o.marks calls
 all_given endpoint b s now calls o = λ line. sym (o.owes line ∙ ap (λ z. sent line calls ++ z) (on_line-nil line) ∙ append-nil (sent line calls))
 
 -- and the store has them all
-pub owing_keep : (endpoint : List ℕ) (b : Base) (s : Serving) (now : After) (owed : List ℕ) (calls : List Call) → (o : OwingAt endpoint b s now owed calls) → AllKeep b o.marks calls
+pub owing_keep : (endpoint : List ℕ) (b : RunStart) (s : Serving) (now : After) (owed : List ℕ) (calls : List Call) → (o : OwingAt endpoint b s now owed calls) → AllKeep b o.marks calls
 owing_keep endpoint b s now owed calls o = settled_keep b o.marks s.engine calls o.quiet o.unfailed o.state o.settled
 
 -- The theorem holds at each moment so far, and a call of the store failed. These bytes of its fault are not given yet.
-pub record FaultingAt (endpoint : List ℕ) (b : Base) (owed : List ℕ) (calls : List Call) : Type 0 where
+pub record FaultingAt (endpoint : List ℕ) (b : RunStart) (owed : List ℕ) (calls : List Call) : Type 0 where
   pub marks : List Mark
   pub each : AtEach (Answered endpoint b marks) calls
   pub marked : length (events calls) ≡ length marks
@@ -129,7 +130,7 @@ steps_needed zero on_files idle some = absurd (subst IsSome (idle refl) some)
 steps_needed (suc n) on_files idle some = omega arith
 
 -- A message is answered, and its steps are settled.
-module _ (endpoint : List ℕ) (b : Base) (s : Serving) (then : Held) (stand : After) (sv : Served) (time : ℕ) (mark : Mark) (x : List Call) (o : OwingAt endpoint b s stand [] x)
+module _ (endpoint : List ℕ) (b : RunStart) (s : Serving) (then : Held) (stand : After) (sv : Served) (time : ℕ) (mark : Mark) (x : List Call) (o : OwingAt endpoint b s stand [] x)
     (one : events (Told time ∷ x) ≡ events x ++ event s.count time sv ∷ []) (state : then.state ≡ state_at s.engine.state (asked (event s.count time sv)) mark) where
   abbrev pub e : LineEvent
   e = event s.count time sv
@@ -234,6 +235,7 @@ module _ (endpoint : List ℕ) (b : Base) (s : Serving) (then : Held) (stand : A
   between : (on_files : List Call) → OnlyFiles on_files → 0 < steps_at s.engine e mark → IsBetween endpoint b marks (on_files ++ Told time ∷ x)
   between on_files only need = record {
     needed = inr (rw (same_events on_files only, before_newest-more es e) (omega (arith, need, steps_then, steps_before)));
+    sound = same_by_files (failed_on 0) (λ file c calls. refl) on_files (Told time ∷ x) only ∙ o.sound;
     given = λ line. same_sent line on_files only ∙ given_then line ∙ ap (λ (l : List LineEvent). replies line endpoint b.first l marks) (sym (ap before_newest (same_events on_files only) ∙ before_newest-more es e));
   }
 
@@ -316,7 +318,7 @@ module _ (endpoint : List ℕ) (b : Base) (s : Serving) (then : Held) (stand : A
       }
 
 -- Giving what is owed, moment by moment.
-syncs_gives : (line : ℕ) (b : Base) (gives calls : List Call) → OnlyGives line gives → syncs (history b (gives ++ calls)).calls ≡ syncs (history b calls).calls
+syncs_gives : (line : ℕ) (b : RunStart) (gives calls : List Call) → OnlyGives line gives → syncs (history b (gives ++ calls)).calls ≡ syncs (history b calls).calls
 syncs_gives line b [] calls only = refl
 syncs_gives line b (Text name room bytes ∷ gives) calls only = absurd only
 syncs_gives line b (Attached name done ∷ gives) calls only = absurd only
@@ -327,7 +329,7 @@ syncs_gives line b (OnFile file c ∷ gives) calls only = absurd only
 syncs_gives line b (Told t ∷ gives) calls only = absurd only
 syncs_gives line b (Drew purpose bytes ∷ gives) calls only = absurd only
 
-given_here : (endpoint : List ℕ) (b : Base) (marks : List Mark) (owed : List ℕ) (l : ℕ) (piece : List ℕ) (went : Option ℕ) (gives calls : List Call)
+given_here : (endpoint : List ℕ) (b : RunStart) (marks : List Mark) (owed : List ℕ) (l : ℕ) (piece : List ℕ) (went : Option ℕ) (gives calls : List Call)
     → Answered endpoint b marks calls
     → ((line : ℕ) → due line endpoint b.first (events calls) marks (store_failed calls) ≡ sent line calls ++ on_line line owed)
     → AllKeep b marks calls
@@ -374,7 +376,7 @@ given_here endpoint b marks owed l piece went gives calls a owes keep sound only
       few_syncs = rw (syncs_gives 0 b gives calls gave.1, same) a.few_syncs;
     }
 
-given_each : (endpoint : List ℕ) (b : Base) (marks : List Mark) (owed : List ℕ) (gives calls : List Call)
+given_each : (endpoint : List ℕ) (b : RunStart) (marks : List Mark) (owed : List ℕ) (gives calls : List Call)
     → AtEach (Answered endpoint b marks) calls
     → ((line : ℕ) → due line endpoint b.first (events calls) marks (store_failed calls) ≡ sent line calls ++ on_line line owed)
     → AllKeep b marks calls
@@ -395,11 +397,11 @@ given_each endpoint b marks owed (Told t ∷ gives) calls each owes keep sound o
 given_each endpoint b marks owed (Drew purpose bytes ∷ gives) calls each owes keep sound only = absurd only
 
 -- the replies that are due where no call of the store failed
-owing_due : (endpoint : List ℕ) (b : Base) (s : Serving) (now : After) (owed : List ℕ) (calls : List Call) → (o : OwingAt endpoint b s now owed calls) → (line : ℕ)
+owing_due : (endpoint : List ℕ) (b : RunStart) (s : Serving) (now : After) (owed : List ℕ) (calls : List Call) → (o : OwingAt endpoint b s now owed calls) → (line : ℕ)
     → due line endpoint b.first (events calls) o.marks (store_failed calls) ≡ sent line calls ++ on_line line owed
 owing_due endpoint b s now owed calls o line = ap (λ f. due line endpoint b.first (events calls) o.marks f) o.unfailed ∙ o.owes line
 
-owing_each : (endpoint : List ℕ) (b : Base) (s : Serving) (now : After) (owed : List ℕ) (x y : List Call) → (o : OwingAt endpoint b s now owed x) → OnlyLeft 0 owed y
+owing_each : (endpoint : List ℕ) (b : RunStart) (s : Serving) (now : After) (owed : List ℕ) (x y : List Call) → (o : OwingAt endpoint b s now owed x) → OnlyLeft 0 owed y
     → AtEach (Answered endpoint b o.marks) (y ++ x)
 owing_each endpoint b s now owed x y o only = given_each endpoint b o.marks owed y x o.each (owing_due endpoint b s now owed x o) (owing_keep endpoint b s now owed x o) o.sound only
 
@@ -408,13 +410,13 @@ abbrev pub done : (E : Type 0) → Result (Unit {0}) E
 done E = Ok tt
 
 -- giving leaves what was settled
-gives_settled : (b : Base) (engine : Held) (marks : List Mark) (x y : List Call) → OnlyGives 0 y → events (y ++ x) ≡ events x
+gives_settled : (b : RunStart) (engine : Held) (marks : List Mark) (x y : List Call) → OnlyGives 0 y → events (y ++ x) ≡ events x
     → IsSettled engine (b.steps + steps_by b.first (events x) marks) (history b x) → IsSettled engine (b.steps + steps_by b.first (events (y ++ x)) marks) (history b (y ++ x))
 gives_settled b engine marks x y gave same settled =
     rw same (settled_same engine (b.steps + steps_by b.first (events x) marks) (history b x) (history b (y ++ x)) (same_gives 0 b y x gave) settled)
 
 -- what was owed was given: nothing is owed any more
-pub owing_given : (E : Type 0) (endpoint : List ℕ) (b : Base) (s : Serving) (now : After) (owed : List ℕ) (x y : List Call)
+pub owing_given : (E : Type 0) (endpoint : List ℕ) (b : RunStart) (s : Serving) (now : After) (owed : List ℕ) (x y : List Call)
     → OwingAt endpoint b s now owed x → Gives 0 owed (done E) y → OwingAt endpoint b s now [] (y ++ x)
 owing_given E endpoint b s now owed x y o g =
     let gave = only_gives 0 owed y g.only in
@@ -448,7 +450,7 @@ owing_given E endpoint b s now owed x y o g =
     }
 
 -- a call failed while it was given
-pub ended_giving : {E : Type 0} (endpoint : List ℕ) (b : Base) (s : Serving) (now : After) (owed : List ℕ) (e : E) (x y : List Call)
+pub ended_giving : {E : Type 0} (endpoint : List ℕ) (b : RunStart) (s : Serving) (now : After) (owed : List ℕ) (e : E) (x y : List Call)
     → OwingAt endpoint b s now owed x → (let r : Result (Unit {0}) E = Err e in Gives 0 owed r y) → EndedAt endpoint b status.LinkFault (y ++ x)
 ended_giving endpoint b s now owed e x y o g =
     let gave = only_gives 0 owed y g.only in
@@ -468,7 +470,7 @@ ended_giving endpoint b s now owed e x y o g =
     }
 
 -- the fault of the store was given, or a call failed while it was
-pub ended_faulted : (endpoint : List ℕ) (b : Base) (owed : List ℕ) (x y : List Call) → FaultingAt endpoint b owed x → GivesFault owed y → EndedAt endpoint b status.StoreFault (y ++ x)
+pub ended_faulted : (endpoint : List ℕ) (b : RunStart) (owed : List ℕ) (x y : List Call) → FaultingAt endpoint b owed x → GivesFault owed y → EndedAt endpoint b status.StoreFault (y ++ x)
 ended_faulted endpoint b owed x y o g =
     let gave = only_gives 0 owed y g.only in
     let same : events (y ++ x) ≡ events x = events-gives 0 y x gave in
@@ -496,7 +498,7 @@ ended_faulted endpoint b owed x y o g =
     }
 
 -- the line is shut when all was given and nothing more is served
-shut_each : (endpoint : List ℕ) (b : Base) (marks : List Mark) (calls : List Call) → is_shut 0 calls ≡ false → sent 0 calls ≡ replies 0 endpoint b.first (events calls) marks
+shut_each : (endpoint : List ℕ) (b : RunStart) (marks : List Mark) (calls : List Call) → is_shut 0 calls ≡ false → sent 0 calls ≡ replies 0 endpoint b.first (events calls) marks
     → IsServed calls → store_failed calls ≡ false → AllKeep b marks calls → AtEach (Answered endpoint b marks) calls → AtEach (Answered endpoint b marks) (Shut 0 ∷ calls)
 shut_each endpoint b marks calls once given over unfailed keep each =
     let a = at_now (Answered endpoint b marks) calls each in
@@ -507,7 +509,7 @@ shut_each endpoint b marks calls once given over unfailed keep each =
     (record { within = a.within; timed = a.timed; printed = a.printed; in_turn = turn; still = tt; safe = here; unasked = unasked; few_syncs = a.few_syncs }, each)
 
 -- what is kept when a line is shut, or bytes were taken
-kept_same : (b : Base) (marks : List Mark) (engine : Held) (was now : List Call) → Same (history b was) (history b now) → events now ≡ events was
+kept_same : (b : RunStart) (marks : List Mark) (engine : Held) (was now : List Call) → Same (history b was) (history b now) → events now ≡ events was
     → engine.state ≡ state_by b.first (events was) marks → IsSettled engine (b.steps + steps_by b.first (events was) marks) (history b was)
     → (IsQuietStore b.was → IsQuietStore (history b was)) → store_failed now ≡ false → AllKept b marks now
 kept_same b marks engine was now calls same state settled quiet unfailed =
@@ -520,7 +522,7 @@ kept_same b marks engine was now calls same state settled quiet unfailed =
     }
 
 -- the last message of the line was answered
-pub ended_over : (endpoint : List ℕ) (b : Base) (s : Serving) (calls : List Call) → OwingAt endpoint b s Over [] calls → EndedAt endpoint b status.Done (Shut 0 ∷ calls)
+pub ended_over : (endpoint : List ℕ) (b : RunStart) (s : Serving) (calls : List Call) → OwingAt endpoint b s Over [] calls → EndedAt endpoint b status.Done (Shut 0 ∷ calls)
 ended_over endpoint b s calls o =
     let over : after most (length (events calls)) (taken 0 calls) ≡ Some Over = ap (λ n. after most n (taken 0 calls)) (sym o.counted) ∙ o.held in
     record {
@@ -536,7 +538,7 @@ ended_over endpoint b s calls o =
     }
 
 -- What is no message was refused, and the reply is owed.
-pub record RefusingAt (endpoint : List ℕ) (b : Base) (s : Serving) (place : ℕ) (owed : List ℕ) (calls : List Call) : Type 0 where
+pub record RefusingAt (endpoint : List ℕ) (b : RunStart) (s : Serving) (place : ℕ) (owed : List ℕ) (calls : List Call) : Type 0 where
   pub owing : OwingAt endpoint b s Broken owed calls
   pub unreadable : EndsUnreadable place calls
 
@@ -544,7 +546,7 @@ pub record RefusingAt (endpoint : List ℕ) (b : Base) (s : Serving) (place : �
 unpack : (on_files x : List Call) (t : ℕ) → (on_files ++ Told t ∷ []) ++ x ≡ on_files ++ Told t ∷ x
 unpack on_files x t = append_assoc on_files (Told t ∷ []) x
 
-pub owing_prepared : (endpoint : List ℕ) (b : Base) (s t : Serving) (now : After) (owed : Owed) (sv : Served) (x y : List Call)
+pub owing_prepared : (endpoint : List ℕ) (b : RunStart) (s t : Serving) (now : After) (owed : Owed) (sv : Served) (x y : List Call)
     → served (front s.reader.held) ≡ Some sv
     → t.count ≡ s.count + 1
     → t.reader.passed + length t.reader.held ≡ s.reader.passed + length s.reader.held
@@ -561,7 +563,7 @@ owing_prepared endpoint b s t now owed sv x y is count place held well o p =
     subst (OwingAt endpoint b t now (owed_bytes owed)) (sym (ap (λ z. z ++ x) p.made ∙ unpack p.files x p.time))
     (settled_at endpoint b s t.engine (Going s.reader.held) sv p.time p.mark x o one p.state t now (owed_bytes owed) p.files p.only (steps_needed _ p.files p.idle) settled (p.failed ∙ well) (p.reply_is well) refl count place held)
 
-pub faulting_prepared : (endpoint : List ℕ) (b : Base) (s : Serving) (then : Held) (owed : Owed) (sv : Served) (x y : List Call)
+pub faulting_prepared : (endpoint : List ℕ) (b : RunStart) (s : Serving) (then : Held) (owed : Owed) (sv : Served) (x y : List Call)
     → served (front s.reader.held) ≡ Some sv
     → is_fault owed ≡ true
     → GoodAt endpoint b s x
@@ -575,7 +577,7 @@ faulting_prepared endpoint b s then owed sv x y is fault o p =
     (subst (FaultingAt endpoint b (fault_reply_of F1)) (sym (ap (λ z. z ++ x) p.made ∙ unpack p.files x p.time))
     (faulted_at endpoint b s then (Going s.reader.held) sv p.time p.mark x o one p.state p.files p.only (steps_needed _ p.files p.idle) settled.each (p.failed ∙ fault)))
 
-pub refusing_prepared : (endpoint : List ℕ) (b : Base) (s t : Serving) (owed : Owed) (x y : List Call)
+pub refusing_prepared : (endpoint : List ℕ) (b : RunStart) (s t : Serving) (owed : Owed) (x y : List Call)
     → front s.reader.held ≡ Bad
     → t.count ≡ s.count + 1
     → t.reader ≡ s.reader
@@ -601,7 +603,7 @@ refusing_prepared endpoint b s t owed x y bad count reader well o p =
       };
     }
 
-pub refusing_given : (E : Type 0) (endpoint : List ℕ) (b : Base) (s : Serving) (place : ℕ) (owed : List ℕ) (x y : List Call)
+pub refusing_given : (E : Type 0) (endpoint : List ℕ) (b : RunStart) (s : Serving) (place : ℕ) (owed : List ℕ) (x y : List Call)
     → RefusingAt endpoint b s place owed x → Gives 0 owed (done E) y → RefusingAt endpoint b s place [] (y ++ x)
 refusing_given E endpoint b s place owed x y r g =
     let gave = only_gives 0 owed y g.only in
@@ -620,7 +622,7 @@ refusing_given E endpoint b s place owed x y r g =
       };
     }
 
-pub ended_refused : (endpoint : List ℕ) (b : Base) (s : Serving) (place : ℕ) (calls : List Call) → RefusingAt endpoint b s place [] calls
+pub ended_refused : (endpoint : List ℕ) (b : RunStart) (s : Serving) (place : ℕ) (calls : List Call) → RefusingAt endpoint b s place [] calls
     → EndedAt endpoint b (status.Unreadable place) (Shut 0 ∷ calls)
 ended_refused endpoint b s place calls r =
     let u = r.unreadable in
@@ -639,11 +641,11 @@ ended_refused endpoint b s place calls r =
     }
 
 -- bytes were taken
-took_keep : (endpoint : List ℕ) (b : Base) (s : Serving) (n : ℕ) (bytes : Option (List ℕ)) (calls : List Call) → (g : GoodAt endpoint b s calls) → AllKeep b g.marks (Took 0 n bytes ∷ calls)
+took_keep : (endpoint : List ℕ) (b : RunStart) (s : Serving) (n : ℕ) (bytes : Option (List ℕ)) (calls : List Call) → (g : GoodAt endpoint b s calls) → AllKeep b g.marks (Took 0 n bytes ∷ calls)
 took_keep endpoint b s n bytes calls g =
     keep_on b g.marks calls (Took 0 n bytes ∷ calls) refl refl (same_took (history b calls) 0 n bytes) (owing_keep endpoint b s (Going s.reader.held) [] calls g)
 
-took_each : (endpoint : List ℕ) (b : Base) (s : Serving) (n : ℕ) (bytes : Option (List ℕ)) (calls : List Call) → n ≡ 65536 → front s.reader.held ≡ Part
+took_each : (endpoint : List ℕ) (b : RunStart) (s : Serving) (n : ℕ) (bytes : Option (List ℕ)) (calls : List Call) → n ≡ 65536 → front s.reader.held ≡ Part
     → (g : GoodAt endpoint b s calls) → AtEach (Answered endpoint b g.marks) (Took 0 n bytes ∷ calls)
 took_each endpoint b s n bytes calls size part g =
     let a = at_now (Answered endpoint b g.marks) calls g.each in
@@ -663,7 +665,7 @@ took_each endpoint b s n bytes calls size part g =
     (record { within = a.within; timed = a.timed; printed = a.printed; in_turn = ready; still = g.sound; safe = here; unasked = unasked; few_syncs = a.few_syncs }, g.each)
 
 -- more bytes came
-pub good_took : (endpoint : List ℕ) (b : Base) (s t : Serving) (n : ℕ) (bytes : List ℕ) (calls : List Call) → n ≡ 65536
+pub good_took : (endpoint : List ℕ) (b : RunStart) (s t : Serving) (n : ℕ) (bytes : List ℕ) (calls : List Call) → n ≡ 65536
     → t.engine ≡ s.engine → t.count ≡ s.count → t.reader ≡ record { held = s.reader.held ++ bytes; passed = s.reader.passed }
     → front s.reader.held ≡ Part → is_empty bytes ≡ false → GoodAt endpoint b s calls → GoodAt endpoint b t (Took 0 n (Some bytes) ∷ calls)
 good_took endpoint b s t n bytes calls size engine count reader part filled g =
@@ -687,17 +689,39 @@ good_took endpoint b s t n bytes calls size engine count reader part filled g =
     }
 
 -- out of memory between two turns
-pub ended_wanted : (endpoint : List ℕ) (b : Base) (s : Serving) (calls : List Call) → GoodAt endpoint b s calls → EndedAt endpoint b status.NoMemory calls
-ended_wanted endpoint b s calls g = record { marks = g.marks; each = g.each; marked = g.marked; end = (g.unfinished, g.unfailed) }
+pub ended_out_of_memory : (endpoint : List ℕ) (b : RunStart) (s : Serving) (calls : List Call) → GoodAt endpoint b s calls → EndedAt endpoint b status.NoMemory calls
+ended_out_of_memory endpoint b s calls g = record {
+  marks = g.marks;
+  each = g.each;
+  marked = g.marked;
+  end = (
+    all_given endpoint b s (Going s.reader.held) calls g,
+    (s.reader.held, ap (λ n. after most n (taken 0 calls)) (sym g.counted) ∙ g.held),
+    g.unfinished,
+    g.sound,
+    g.unfailed,
+  );
+}
 
 -- out of memory for the bytes that came
-pub ended_took_wanted : (endpoint : List ℕ) (b : Base) (s : Serving) (n : ℕ) (bytes : List ℕ) → n ≡ 65536 → front s.reader.held ≡ Part → is_empty bytes ≡ false
+pub ended_took_out_of_memory : (endpoint : List ℕ) (b : RunStart) (s : Serving) (n : ℕ) (bytes : List ℕ) → n ≡ 65536 → front s.reader.held ≡ Part → is_empty bytes ≡ false
     → (calls : List Call) → GoodAt endpoint b s calls → EndedAt endpoint b status.NoMemory (Took 0 n (Some bytes) ∷ calls)
-ended_took_wanted endpoint b s n bytes size part filled calls g =
-    record { marks = g.marks; each = took_each endpoint b s n (Some bytes) calls size part g; marked = g.marked; end = (rw (filled, g.unfinished) refl, g.unfailed) }
+ended_took_out_of_memory endpoint b s n bytes size part filled calls g =
+    record {
+      marks = g.marks;
+      each = took_each endpoint b s n (Some bytes) calls size part g;
+      marked = g.marked;
+      end = (
+        all_given endpoint b s (Going s.reader.held) calls g,
+        (s.reader.held ++ bytes, ap (λ k. after most k (taken 0 calls ++ bytes)) (sym g.counted) ∙ after-more most s.count (taken 0 calls) bytes s.reader.held g.held),
+        rw (filled, g.unfinished) refl,
+        g.sound,
+        g.unfailed,
+      );
+    }
 
 -- taking failed
-pub ended_took_fault : (endpoint : List ℕ) (b : Base) (s : Serving) (n : ℕ) → n ≡ 65536 → front s.reader.held ≡ Part → (calls : List Call)
+pub ended_took_fault : (endpoint : List ℕ) (b : RunStart) (s : Serving) (n : ℕ) → n ≡ 65536 → front s.reader.held ≡ Part → (calls : List Call)
     → GoodAt endpoint b s calls → EndedAt endpoint b status.LinkFault (Took 0 n None ∷ calls)
 ended_took_fault endpoint b s n size part calls g =
     record {
@@ -708,19 +732,19 @@ ended_took_fault endpoint b s n size part calls g =
     }
 
 -- the line ended behind a message, or inside one
-shut_after : (endpoint : List ℕ) (b : Base) (s : Serving) (n : ℕ) (bytes : List ℕ) (calls : List Call) → n ≡ 65536 → bytes ≡ [] → front s.reader.held ≡ Part → (g : GoodAt endpoint b s calls)
+shut_after : (endpoint : List ℕ) (b : RunStart) (s : Serving) (n : ℕ) (bytes : List ℕ) (calls : List Call) → n ≡ 65536 → bytes ≡ [] → front s.reader.held ≡ Part → (g : GoodAt endpoint b s calls)
     → AtEach (Answered endpoint b g.marks) (Shut 0 ∷ Took 0 n (Some bytes) ∷ calls)
 shut_after endpoint b s n bytes calls size none part g =
     shut_each endpoint b g.marks (Took 0 n (Some bytes) ∷ calls) g.unshut (all_given endpoint b s (Going s.reader.held) calls g 0) (inl (rw none refl)) g.unfailed
     (took_keep endpoint b s n (Some bytes) calls g) (took_each endpoint b s n (Some bytes) calls size part g)
 
-kept_after : (endpoint : List ℕ) (b : Base) (s : Serving) (n : ℕ) (bytes : Option (List ℕ)) (calls : List Call) → (g : GoodAt endpoint b s calls) → AllKept b g.marks (Shut 0 ∷ Took 0 n bytes ∷ calls)
+kept_after : (endpoint : List ℕ) (b : RunStart) (s : Serving) (n : ℕ) (bytes : Option (List ℕ)) (calls : List Call) → (g : GoodAt endpoint b s calls) → AllKept b g.marks (Shut 0 ∷ Took 0 n bytes ∷ calls)
 kept_after endpoint b s n bytes calls g =
     kept_same b g.marks s.engine calls (Shut 0 ∷ Took 0 n bytes ∷ calls)
     (same_then (history b calls) (history b (Took 0 n bytes ∷ calls)) (history b (Shut 0 ∷ Took 0 n bytes ∷ calls)) (same_took (history b calls) 0 n bytes) (same_shut (history b (Took 0 n bytes ∷ calls)) 0))
     refl g.state g.settled g.quiet g.unfailed
 
-pub ended_clean : (endpoint : List ℕ) (b : Base) (s : Serving) (n : ℕ) (bytes : List ℕ) (calls : List Call) → n ≡ 65536 → bytes ≡ [] → s.reader.held ≡ []
+pub ended_clean : (endpoint : List ℕ) (b : RunStart) (s : Serving) (n : ℕ) (bytes : List ℕ) (calls : List Call) → n ≡ 65536 → bytes ≡ [] → s.reader.held ≡ []
     → front s.reader.held ≡ Part → GoodAt endpoint b s calls → EndedAt endpoint b status.Done (Shut 0 ∷ Took 0 n (Some bytes) ∷ calls)
 ended_clean endpoint b s n bytes calls size none empty part g =
     let stream : taken 0 calls ++ bytes ≡ taken 0 calls = ap (λ z. taken 0 calls ++ z) none ∙ append-nil (taken 0 calls) in
@@ -736,7 +760,7 @@ ended_clean endpoint b s n bytes calls size none empty part g =
       );
     }
 
-pub ended_rest : (endpoint : List ℕ) (b : Base) (s : Serving) (n : ℕ) (bytes : List ℕ) (calls : List Call) → n ≡ 65536 → bytes ≡ [] → 0 < length s.reader.held
+pub ended_rest : (endpoint : List ℕ) (b : RunStart) (s : Serving) (n : ℕ) (bytes : List ℕ) (calls : List Call) → n ≡ 65536 → bytes ≡ [] → 0 < length s.reader.held
     → front s.reader.held ≡ Part → GoodAt endpoint b s calls → EndedAt endpoint b (status.Rest s.reader.passed) (Shut 0 ∷ Took 0 n (Some bytes) ∷ calls)
 ended_rest endpoint b s n bytes calls size none some part g =
     let stream : taken 0 calls ++ bytes ≡ taken 0 calls = ap (λ z. taken 0 calls ++ z) none ∙ append-nil (taken 0 calls) in

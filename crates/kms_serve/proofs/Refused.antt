@@ -12,7 +12,7 @@ use Rattle.kms_host.proofs.Moments.{by_moment-last}
 use Rattle.kms_http.specs.Stream.{after}
 use Rattle.kms_http.specs.Stream.After.{Going, Over}
 use Rattle.kms_serve.specs.Answered.{Answered}
-use Rattle.kms_serve.specs.Base.{Base, history}
+use Rattle.kms_serve.specs.RunStart.{RunStart, history}
 use Rattle.kms_serve.specs.Events.{events}
 use Rattle.kms_serve.specs.Replies.{state_by, steps_by, answered_of}
 use Rattle.kms_serve.specs.StoreCalls.{store_failed}
@@ -21,66 +21,66 @@ use Rattle.kms_serve.specs.declared.status.Status.{Status}
 use Rattle.kms_serve.specs.declared.status.Status.TheVariants as status
 
 -- what holds at the end of the run
-at_the_end : (endpoint : List ℕ) (b : Base) (s : Status) (calls : List Call) → (c : Serves endpoint b s calls) → Answered endpoint b c.marks calls
+at_the_end : (endpoint : List ℕ) (b : RunStart) (s : Status) (calls : List Call) → (c : Serves endpoint b s calls) → Answered endpoint b c.marks calls
 at_the_end endpoint b s calls c =
     subst (Answered endpoint b c.marks) (by_moment-last calls (length calls) refl) (c.each (length calls) (omega arith))
 
 -- it gives bytes on any line before a request came
-pub gives_at_once : (endpoint : List ℕ) (b : Base) (s : Status) (line : ℕ) (piece : List ℕ) (went : Option ℕ) → Serves endpoint b s (Gave line piece went ∷ []) → ⊥
+pub gives_at_once : (endpoint : List ℕ) (b : RunStart) (s : Status) (line : ℕ) (piece : List ℕ) (went : Option ℕ) → Serves endpoint b s (Gave line piece went ∷ []) → ⊥
 gives_at_once endpoint b s line piece went c =
     let next = (at_the_end endpoint b s (Gave line piece went ∷ []) c).in_turn in
     let none : 0 ≡ length (piece ++ next.rest) = ap length next.next in
     omega (arith, next.some, none, length-append piece next.rest)
 
 -- it takes again behind a call that failed
-pub takes_behind_a_fault : (endpoint : List ℕ) (b : Base) (s : Status) (room : ℕ) (bytes : Option (List ℕ)) → Serves endpoint b s (Took 0 room bytes ∷ Took 0 room None ∷ []) → ⊥
+pub takes_behind_a_fault : (endpoint : List ℕ) (b : RunStart) (s : Status) (room : ℕ) (bytes : Option (List ℕ)) → Serves endpoint b s (Took 0 room bytes ∷ Took 0 room None ∷ []) → ⊥
 takes_behind_a_fault endpoint b s room bytes c =
     let still : true ≡ false = (at_the_end endpoint b s (Took 0 room bytes ∷ Took 0 room None ∷ []) c).still in cc
 
 -- it takes a byte at a time
-pub takes_too_little : (endpoint : List ℕ) (b : Base) (s : Status) (bytes : Option (List ℕ)) → Serves endpoint b s (Took 0 1 bytes ∷ []) → ⊥
+pub takes_too_little : (endpoint : List ℕ) (b : RunStart) (s : Status) (bytes : Option (List ℕ)) → Serves endpoint b s (Took 0 1 bytes ∷ []) → ⊥
 takes_too_little endpoint b s bytes c =
     let size : 1 ≡ 65536 = (at_the_end endpoint b s (Took 0 1 bytes ∷ []) c).in_turn.of_size in omega (arith, size)
 
 -- it takes from a line that isn't its own
-pub takes_from_another_line : (endpoint : List ℕ) (b : Base) (s : Status) (line room : ℕ) (bytes : Option (List ℕ)) → 0 < line → Serves endpoint b s (Took line room bytes ∷ []) → ⊥
+pub takes_from_another_line : (endpoint : List ℕ) (b : RunStart) (s : Status) (line room : ℕ) (bytes : Option (List ℕ)) → 0 < line → Serves endpoint b s (Took line room bytes ∷ []) → ⊥
 takes_from_another_line endpoint b s line room bytes other c =
     let of_line = (at_the_end endpoint b s (Took line room bytes ∷ []) c).in_turn.of_line in omega (arith, of_line, other)
 
 -- it takes again behind the line's end
-pub takes_behind_the_end : (endpoint : List ℕ) (b : Base) (s : Status) (room : ℕ) (bytes : Option (List ℕ)) → Serves endpoint b s (Took 0 room bytes ∷ Took 0 room (Some []) ∷ []) → ⊥
+pub takes_behind_the_end : (endpoint : List ℕ) (b : RunStart) (s : Status) (room : ℕ) (bytes : Option (List ℕ)) → Serves endpoint b s (Took 0 room bytes ∷ Took 0 room (Some []) ∷ []) → ⊥
 takes_behind_the_end endpoint b s room bytes c =
     let unended : true ≡ false = (at_the_end endpoint b s (Took 0 room bytes ∷ Took 0 room (Some []) ∷ []) c).in_turn.unended in cc
 
 -- it gives again behind a call that failed
-pub gives_behind_a_fault : (endpoint : List ℕ) (b : Base) (s : Status) (piece again : List ℕ) (went : Option ℕ) (calls : List Call)
+pub gives_behind_a_fault : (endpoint : List ℕ) (b : RunStart) (s : Status) (piece again : List ℕ) (went : Option ℕ) (calls : List Call)
     → Serves endpoint b s (Gave 0 again went ∷ Gave 0 piece None ∷ calls) → ⊥
 gives_behind_a_fault endpoint b s piece again went calls c =
     let still : true ≡ false = (at_the_end endpoint b s (Gave 0 again went ∷ Gave 0 piece None ∷ calls) c).still in cc
 
--- it gives nothing, as a reply that was begun
-pub gives_no_bytes : (endpoint : List ℕ) (b : Base) (s : Status) (line : ℕ) (went : Option ℕ) (calls : List Call) → Serves endpoint b s (Gave line [] went ∷ calls) → ⊥
+-- it gives nothing, as a part of a reply
+pub gives_no_bytes : (endpoint : List ℕ) (b : RunStart) (s : Status) (line : ℕ) (went : Option ℕ) (calls : List Call) → Serves endpoint b s (Gave line [] went ∷ calls) → ⊥
 gives_no_bytes endpoint b s line went calls c =
     let some = (at_the_end endpoint b s (Gave line [] went ∷ calls) c).in_turn.some in omega (arith, some)
 
 -- it shuts another line, or its own twice
-pub shuts_another_line : (endpoint : List ℕ) (b : Base) (s : Status) (line : ℕ) (calls : List Call) → 0 < line → Serves endpoint b s (Shut line ∷ calls) → ⊥
+pub shuts_another_line : (endpoint : List ℕ) (b : RunStart) (s : Status) (line : ℕ) (calls : List Call) → 0 < line → Serves endpoint b s (Shut line ∷ calls) → ⊥
 shuts_another_line endpoint b s line calls other c =
     let of_line = (at_the_end endpoint b s (Shut line ∷ calls) c).in_turn.of_line in omega (arith, of_line, other)
 
-pub shuts_twice : (endpoint : List ℕ) (b : Base) (s : Status) (calls : List Call) → Serves endpoint b s (Shut 0 ∷ Shut 0 ∷ calls) → ⊥
+pub shuts_twice : (endpoint : List ℕ) (b : RunStart) (s : Status) (calls : List Call) → Serves endpoint b s (Shut 0 ∷ Shut 0 ∷ calls) → ⊥
 shuts_twice endpoint b s calls c =
     let once : true ≡ false = (at_the_end endpoint b s (Shut 0 ∷ Shut 0 ∷ calls) c).in_turn.once in cc
 
 -- it ends well without shutting the line
-pub leaves_the_line : (endpoint : List ℕ) (b : Base) (room : ℕ) (calls : List Call) → Serves endpoint b status.Done (Took 0 room (Some []) ∷ calls) → ⊥
+pub leaves_the_line : (endpoint : List ℕ) (b : RunStart) (room : ℕ) (calls : List Call) → Serves endpoint b status.Done (Took 0 room (Some []) ∷ calls) → ⊥
 leaves_the_line endpoint b room calls c = c.end.3
 
 going_over : (x : List ℕ) → Some (Going x) ≡ Some Over → ⊥
 going_over x e = cc
 
 -- it ends before it read the line
-pub done_at_once : (endpoint : List ℕ) (b : Base) → Serves endpoint b status.Done [] → ⊥
+pub done_at_once : (endpoint : List ℕ) (b : RunStart) → Serves endpoint b status.Done [] → ⊥
 unfolding after
 done_at_once endpoint b c = elim c.end.2 [
   | inl over ↦ let no : false ≡ true = over.0 in cc
@@ -88,20 +88,20 @@ done_at_once endpoint b c = elim c.end.2 [
 ]
 
 -- it answers a link fault though no call failed
-pub fault_without_a_call : (endpoint : List ℕ) (b : Base) → Serves endpoint b status.LinkFault [] → ⊥
+pub fault_without_a_call : (endpoint : List ℕ) (b : RunStart) → Serves endpoint b status.LinkFault [] → ⊥
 fault_without_a_call endpoint b c = c.end.0
 
 -- it names another store
-pub names_another_store : (endpoint : List ℕ) (b : Base) (s : Status) (name : List ℕ) (done : Result (Unit {0}) NameFault) → (name ≡ b.store → ⊥) → Serves endpoint b s (Attached name done ∷ []) → ⊥
+pub names_another_store : (endpoint : List ℕ) (b : RunStart) (s : Status) (name : List ℕ) (done : Result (Unit {0}) NameFault) → (name ≡ b.store → ⊥) → Serves endpoint b s (Attached name done ∷ []) → ⊥
 names_another_store endpoint b s name done other c = other (at_the_end endpoint b s (Attached name done ∷ []) c).in_turn.of_words
 
 -- it names the store again
-pub names_it_again : (endpoint : List ℕ) (b : Base) (s : Status) (name : List ℕ) (done first : Result (Unit {0}) NameFault) → Serves endpoint b s (Attached name done ∷ Attached name first ∷ []) → ⊥
+pub names_it_again : (endpoint : List ℕ) (b : RunStart) (s : Status) (name : List ℕ) (done first : Result (Unit {0}) NameFault) → Serves endpoint b s (Attached name done ∷ Attached name first ∷ []) → ⊥
 names_it_again endpoint b s name done first c =
     let at_first : Attached name first ∷ [] ≡ [] = (at_the_end endpoint b s (Attached name done ∷ Attached name first ∷ []) c).in_turn.at_first in cc
 
 -- it sends a byte of a reply while a stop may leave the store without the request's step
-pub replies_too_early : (endpoint : List ℕ) (b : Base) (s : Status) (calls : List Call) (image : List ℕ × List ℕ) → (c : Serves endpoint b s calls)
+pub replies_too_early : (endpoint : List ℕ) (b : RunStart) (s : Status) (calls : List Call) (image : List ℕ × List ℕ) → (c : Serves endpoint b s calls)
     → IsQuietStore b.was → IsImage (history b calls) image → Stands image b.first b.steps
     → 0 < length (sent 0 calls) → 0 < steps_by b.first (take 1 (answered_of (store_failed calls) (events calls))) c.marks → ⊥
 replies_too_early endpoint b s calls image c quiet is stands begun stores =
@@ -110,12 +110,16 @@ replies_too_early endpoint b s calls image c quiet is stands begun stores =
     omega (arith, h.acknowledged 0 0 begun, stores, one.1)
 
 -- it ends well and leaves a request's step behind
-pub ends_without_a_step : (endpoint : List ℕ) (b : Base) (calls : List Call) → (c : Serves endpoint b status.Done calls) → Stands (files (history b calls)) b.first b.steps
+pub ends_without_a_step : (endpoint : List ℕ) (b : RunStart) (calls : List Call) → (c : Serves endpoint b status.Done calls) → Stands (files (history b calls)) b.first b.steps
     → 0 < steps_by b.first (events calls) c.marks → ⊥
 ends_without_a_step endpoint b calls c stands stores =
     let one = one_state (files (history b calls)) b.first (state_by b.first (events calls) c.marks) b.steps (b.steps + steps_by b.first (events calls) c.marks) stands c.end.1.stands in
     omega (arith, stores, one.1)
 
 -- it answers a store fault though no call failed
-pub store_fault_without_a_call : (endpoint : List ℕ) (b : Base) → Serves endpoint b status.StoreFault [] → ⊥
+pub store_fault_without_a_call : (endpoint : List ℕ) (b : RunStart) → Serves endpoint b status.StoreFault [] → ⊥
 store_fault_without_a_call endpoint b c = let failed : false ≡ true = c.end.0.failed in cc
+
+-- it answers that it is out of memory behind a call that failed
+pub fault_as_out_of_memory : (endpoint : List ℕ) (b : RunStart) (room : ℕ) (calls : List Call) → Serves endpoint b status.NoMemory (Took 0 room None ∷ calls) → ⊥
+fault_as_out_of_memory endpoint b room calls c = let sound : true ≡ false = c.end.3 in cc

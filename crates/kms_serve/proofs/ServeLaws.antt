@@ -7,7 +7,7 @@ use Rattle.kms_host.proofs.Moments.{since_since, since_weaker, since_nothing}
 use Rattle.kms_core.specs.Stands.{Stands}
 use Rattle.kms_core.specs.Steps.{Held, IsSettled}
 use Rattle.kms_core.proofs.StandsLaws.{one_state, some_is}
-use Rattle.kms_serve.specs.Base.{base, FromStore}
+use Rattle.kms_serve.specs.RunStart.{run_start, FromStore}
 use Rattle.kms_serve.specs.Init.{IsInitDone, IsInitStatus}
 use Rattle.kms_serve.specs.Opening.{Opens, IsRefusalStatus}
 use Rattle.kms_serve.specs.Owing.{GoodAt}
@@ -29,7 +29,7 @@ good_from endpoint store engine was can first steps stands =
     let one = one_state (files was) engine.state first can.steps steps (settled_stands engine can.steps was can.settled) stands in
     record {
       marks = [];
-      each = answered_as_before endpoint (base store was first steps) stands [] refl refl (λ line. refl) tt tt (before_all was);
+      each = answered_as_before endpoint (run_start store was first steps) stands [] refl refl (λ line. refl) tt tt (before_all was);
       marked = refl;
       counted = refl;
       state = one.0;
@@ -57,7 +57,7 @@ carried {a} {d} {c} endpoint store engine s opens ready ended =
     let stood = since_since (λ was calls. (n : ℕ) × Stands (files was) engine.state n) opens part (λ was x y o e. (o.start.0, o.start.1)) in
     since_weaker (λ was calls. Carries endpoint store s was calls) (since_fact {Q = λ was. (n : ℕ) × Stands (files was) engine.state n} whole stood)
     (λ was calls k. record {
-      serves = λ first steps stands. serves endpoint (base store was first steps) s calls (k.0 first steps stands);
+      serves = λ first steps stands. serves endpoint (run_start store was first steps) s calls (k.0 first steps stands);
       refuses = λ none. absurd (none engine.state k.1.0 k.1.1);
     })
 
@@ -65,7 +65,7 @@ pub refused : {a c : Option History} (endpoint store : List ℕ) (s : Status) �
 refused endpoint store s opens =
     since_weaker (λ was calls. Carries endpoint store s was calls) opens
     (λ was calls u. record {
-      serves = λ first steps stands. serves endpoint (base store was first steps) s calls (ended_unopened endpoint store s was calls u first steps stands);
+      serves = λ first steps stands. serves endpoint (run_start store was first steps) s calls (ended_unopened endpoint store s was calls u first steps stands);
       refuses = λ none. u;
     })
 

@@ -14,7 +14,7 @@ use Rattle.kms_http.specs.Stream.Front.{Whole, Bad}
 use Rattle.kms_http.specs.Stream.After.{Going, Over}
 use Rattle.kms_http.specs.Stream.Served.{Asking, Unreadable}
 use Rattle.kms_serve.specs.Events.{most}
-use Rattle.kms_serve.specs.Base.{base, FromStore}
+use Rattle.kms_serve.specs.RunStart.{run_start, FromStore}
 use Rattle.kms_serve.specs.Owed.{Prepares, Gives, GivesFault, owed_bytes, is_fault}
 use Rattle.kms_serve.specs.Owing.{OwingAt, GoodAt, EndedAt}
 use Rattle.kms_serve.specs.Turns.{Good, HasEnded, Owing}
@@ -77,7 +77,7 @@ pub since_given : {a d c : Option History} (endpoint store : List ℕ) (s : Serv
 since_given endpoint store s last rest reply not_last held owing given =
     let going : stand last rest ≡ Going s.reader.held = ap (λ l. stand l rest) not_last ∙ ap Going held in
     since_since (λ was calls. FromStore store was (λ b. GoodAt endpoint b s calls)) owing given
-    (λ was x y h g first steps stands. owing_given Failed endpoint _ s (Going s.reader.held) reply x y (subst (λ z. OwingAt endpoint (base store was first steps) s z reply x) going (h first steps stands)) g)
+    (λ was x y h g first steps stands. owing_given Failed endpoint _ s (Going s.reader.held) reply x y (subst (λ z. OwingAt endpoint (run_start store was first steps) s z reply x) going (h first steps stands)) g)
 
 -- what is owed is given, and the line is over
 pub since_over : {a d c e : Option History} (endpoint store : List ℕ) (s : Serving) (last : Bool) (rest reply : List ℕ) → last ≡ true
@@ -87,4 +87,4 @@ pub since_over : {a d c e : Option History} (endpoint store : List ℕ) (s : Ser
 since_over endpoint store s last rest reply is_last owing given shut =
     let over : stand last rest ≡ Over = ap (λ l. stand l rest) is_last in
     since_since_call (λ was calls. FromStore store was (λ b. EndedAt endpoint b status.Done calls)) owing given shut
-    (λ was x y h g first steps stands. ended_over endpoint _ s _ (owing_given Failed endpoint _ s Over reply x y (subst (λ z. OwingAt endpoint (base store was first steps) s z reply x) over (h first steps stands)) g))
+    (λ was x y h g first steps stands. ended_over endpoint _ s _ (owing_given Failed endpoint _ s Over reply x y (subst (λ z. OwingAt endpoint (run_start store was first steps) s z reply x) over (h first steps stands)) g))

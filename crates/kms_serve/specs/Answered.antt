@@ -1,6 +1,6 @@
 -- What holds at each moment of a run.
 use Rattle.std.specs.Prelude.{◌≡◌, ◌⊎◌, ℕ, ◌+◌, ◌*◌, ◌≤◌, ◌<◌, List, [], ◌∷◌, ◌++◌, length, true, false, Some, Result}
-use Rattle.kms_host.specs.Line.{taken, sent, times, at_end, is_shut, IsStill}
+use Rattle.kms_host.specs.Line.{taken, sent, times, at_end, failed_on, is_shut, IsStill}
 use Rattle.kms_host.specs.Store.{apart_from_files, syncs}
 use Rattle.kms_host.specs.declared.call.Call.{Call}
 use Rattle.kms_host.specs.declared.call.Call.TheVariants.{Text, Attached, Took, Gave, Shut, OnFile, Told, Drew}
@@ -9,7 +9,7 @@ use Rattle.kms_model.specs.declared.event.Mark.{Mark}
 use Rattle.kms_http.specs.Stream.{front, after}
 use Rattle.kms_http.specs.Stream.Front.{Part}
 use Rattle.kms_http.specs.Stream.After.{Going, Over, Broken}
-use Rattle.kms_serve.specs.Base.{Base, history}
+use Rattle.kms_serve.specs.RunStart.{RunStart, history}
 use Rattle.kms_serve.specs.Crash.{IsSafe}
 use Rattle.kms_serve.specs.Events.{events, most}
 use Rattle.kms_serve.specs.Opening.{IsAsBefore}
@@ -18,7 +18,7 @@ use Rattle.kms_serve.specs.StoreCalls.{store_failed}
 
 -- Bytes are taken from line 0 alone, at most 65,536 at once, and only when each message that came has its time, all
 -- replies were given whole, the line goes on, its end wasn't told, and no call of the store failed.
-pub record IsReady (endpoint : List ℕ) (b : Base) (marks : List Mark) (line room : ℕ) (calls : List Call) : Type 0 where
+pub record IsReady (endpoint : List ℕ) (b : RunStart) (marks : List Mark) (line room : ℕ) (calls : List Call) : Type 0 where
   pub of_line : line ≡ 0
   pub of_size : room ≡ 65536
   pub unended : at_end line calls ≡ false
@@ -29,7 +29,7 @@ pub record IsReady (endpoint : List ℕ) (b : Base) (marks : List Mark) (line ro
   pub unfailed : store_failed calls ≡ false
 
 -- What is given is what is due next.
-pub record IsNext (endpoint : List ℕ) (b : Base) (marks : List Mark) (line : ℕ) (piece : List ℕ) (calls : List Call) : Type 0 where
+pub record IsNext (endpoint : List ℕ) (b : RunStart) (marks : List Mark) (line : ℕ) (piece : List ℕ) (calls : List Call) : Type 0 where
   pub some : 0 < length piece
   pub rest : List ℕ
   pub next : due line endpoint b.first (events calls) marks (store_failed calls) ≡ sent line calls ++ (piece ++ rest)
@@ -42,7 +42,7 @@ IsServed calls =
     ⊎ (after most (length (events calls)) (taken 0 calls) ≡ Some Broken))
 
 -- Line 0 is shut once, when all replies were given whole and nothing more is served on it.
-pub record IsOver (endpoint : List ℕ) (b : Base) (marks : List Mark) (line : ℕ) (calls : List Call) : Type 0 where
+pub record IsOver (endpoint : List ℕ) (b : RunStart) (marks : List Mark) (line : ℕ) (calls : List Call) : Type 0 where
   pub of_line : line ≡ 0
   pub once : is_shut 0 calls ≡ false
   pub given : sent 0 calls ≡ replies 0 endpoint b.first (events calls) marks
@@ -50,24 +50,25 @@ pub record IsOver (endpoint : List ℕ) (b : Base) (marks : List Mark) (line : �
   pub unfailed : store_failed calls ≡ false
 
 -- The store that the words name is attached once, before all else.
-pub record IsNamed (b : Base) (name : List ℕ) (calls : List Call) : Type 0 where
+pub record IsNamed (b : RunStart) (name : List ℕ) (calls : List Call) : Type 0 where
   pub of_words : name ≡ b.store
   pub at_first : calls ≡ []
 
 -- A file is called while the store is opened, or when the newest request has a step; and when the replies to all requests but
--- the newest were given whole, and nothing more.
-pub record IsBetween (endpoint : List ℕ) (b : Base) (marks : List Mark) (calls : List Call) : Type 0 where
+-- the newest were given whole, and nothing more, and no call of the line failed.
+pub record IsBetween (endpoint : List ℕ) (b : RunStart) (marks : List Mark) (calls : List Call) : Type 0 where
   pub given : (line : ℕ) → sent line calls ≡ replies line endpoint b.first (before_newest (events calls)) marks
   pub needed : ((done : Result (Unit {0}) NameFault) × (apart_from_files calls ≡ Attached b.store done ∷ []))
       ⊎ (steps_by b.first (before_newest (events calls)) marks < steps_by b.first (events calls) marks)
+  pub sound : failed_on 0 calls ≡ false
 
 -- A time is told when all replies were given whole, and no call of the store failed.
-pub record IsNewRequest (endpoint : List ℕ) (b : Base) (marks : List Mark) (calls : List Call) : Type 0 where
+pub record IsNewRequest (endpoint : List ℕ) (b : RunStart) (marks : List Mark) (calls : List Call) : Type 0 where
   pub given : (line : ℕ) → sent line calls ≡ replies line endpoint b.first (events calls) marks
   pub unfailed : store_failed calls ≡ false
 
 -- the newest call came in its turn
-abbrev pub InTurn : (endpoint : List ℕ) → Base → List Mark → List Call → Type 0
+abbrev pub InTurn : (endpoint : List ℕ) → RunStart → List Mark → List Call → Type 0
 InTurn endpoint b marks [] = Unit {0}
 InTurn endpoint b marks (Text name room bytes ∷ calls) = ⊥
 InTurn endpoint b marks (Attached name done ∷ calls) = IsNamed b name calls
@@ -78,10 +79,10 @@ InTurn endpoint b marks (OnFile file c ∷ calls) = IsBetween endpoint b marks c
 InTurn endpoint b marks (Told t ∷ calls) = IsNewRequest endpoint b marks calls
 InTurn endpoint b marks (Drew purpose bytes ∷ calls) = ⊥
 
--- At this moment each time that was told belongs to one message, what was sent on each line is a front of what is due there,
--- and what a stop leaves of the store holds each request whose reply was begun. Before the first request it is what it was.
--- There were at most two syncs for the opening, and two for each step.
-pub record Answered (endpoint : List ℕ) (b : Base) (marks : List Mark) (calls : List Call) : Type 0 where
+-- At this moment each time that was told belongs to one message, what was sent on each line is a prefix of what is due there,
+-- and what a stop leaves of the store holds each request that was acknowledged. Before the first request it is what it was.
+-- There were at most two syncs for the opening, and two more for each step so far.
+pub record Answered (endpoint : List ℕ) (b : RunStart) (marks : List Mark) (calls : List Call) : Type 0 where
   pub within : length (events calls) ≤ length marks
   pub timed : length (times calls) ≡ length (events calls)
   pub printed : (line : ℕ) → (rest : List ℕ) × (due line endpoint b.first (events calls) marks (store_failed calls) ≡ sent line calls ++ rest)

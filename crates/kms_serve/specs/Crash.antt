@@ -6,15 +6,16 @@ use Rattle.kms_host.specs.declared.call.Call.{Call}
 use Rattle.kms_journal.specs.Device.{IsQuietStore}
 use Rattle.kms_core.specs.Stands.{Stands}
 use Rattle.kms_model.specs.declared.event.Mark.{Mark}
-use Rattle.kms_serve.specs.Base.{Base, history}
+use Rattle.kms_serve.specs.RunStart.{RunStart, history}
 use Rattle.kms_serve.specs.Events.{events}
 use Rattle.kms_serve.specs.Replies.{state_by, steps_by, replies, answered_of}
 use Rattle.kms_serve.specs.StoreCalls.{store_failed}
 
 -- The files stand for the state after the first events of the run, so many, and have the steps that those make. Each event
--- of whose reply a byte was sent, and each before it, is held: if more was sent on a line than the replies to its first k
--- events, the files have the steps of one event more at least.
-pub record Holds (endpoint : List ℕ) (b : Base) (marks : List Mark) (calls : List Call) (image : List ℕ × List ℕ) : Type 0 where
+-- that was acknowledged, so that a byte of its reply was sent, and each before it, is held: if more was sent on a line than
+-- the replies there to the first k events, the files have the steps of the first k + 1 at least. Where a call of the store
+-- failed, the newest event isn't among them: what is sent for it is the fault.
+pub record Holds (endpoint : List ℕ) (b : RunStart) (marks : List Mark) (calls : List Call) (image : List ℕ × List ℕ) : Type 0 where
   pub count : ℕ
   pub within : count ≤ length (events calls)
   pub stands : Stands image (state_by b.first (take count (events calls)) marks) (b.steps + steps_by b.first (take count (events calls)) marks)
@@ -22,5 +23,5 @@ pub record Holds (endpoint : List ℕ) (b : Base) (marks : List Mark) (calls : L
       → steps_by b.first (take (k + 1) (answered_of (store_failed calls) (events calls))) marks ≤ steps_by b.first (take count (events calls)) marks
 
 -- So do all files that a stop may leave, if nothing was pending when the run began.
-pub record IsSafe (endpoint : List ℕ) (b : Base) (marks : List Mark) (calls : List Call) : Type 0 where
+pub record IsSafe (endpoint : List ℕ) (b : RunStart) (marks : List Mark) (calls : List Call) : Type 0 where
   pub images : IsQuietStore b.was → (image : List ℕ × List ℕ) → IsImage (history b calls) image → Holds endpoint b marks calls image

@@ -1,7 +1,7 @@
 -- How a run ends.
 use Rattle.std.specs.Prelude.{◌≡◌, ◌⊎◌, ℕ, ◌+◌, ◌<◌, List, [], ◌∷◌, length, true, false, Some, None}
 use Rattle.kms_host.specs.Disk.{files}
-use Rattle.kms_host.specs.Line.{taken, sent, at_end}
+use Rattle.kms_host.specs.Line.{taken, sent, at_end, failed_on}
 use Rattle.kms_host.specs.declared.call.Call.{Call}
 use Rattle.kms_host.specs.declared.call.Call.TheVariants.{Text, Attached, Took, Gave, Shut, OnFile, Told, Drew}
 use Rattle.kms_journal.specs.Device.{IsQuietStore}
@@ -10,7 +10,7 @@ use Rattle.kms_model.specs.declared.event.Mark.{Mark}
 use Rattle.kms_http.specs.Stream.{front, after}
 use Rattle.kms_http.specs.Stream.Front.{Bad, Part}
 use Rattle.kms_http.specs.Stream.After.{Going, Over}
-use Rattle.kms_serve.specs.Base.{Base, history}
+use Rattle.kms_serve.specs.RunStart.{RunStart, history}
 use Rattle.kms_serve.specs.Events.{events, most}
 use Rattle.kms_serve.specs.Replies.{state_by, steps_by, replies, due}
 use Rattle.kms_serve.specs.StoreCalls.{store_failed}
@@ -18,12 +18,12 @@ use Rattle.kms_serve.specs.declared.status.Status.{Status}
 use Rattle.kms_serve.specs.declared.status.Status.TheVariants as status
 
 -- on each line all replies were given whole, and nothing else
-abbrev pub AllGiven : (endpoint : List ℕ) → Base → List Mark → List Call → Type 0
+abbrev pub AllGiven : (endpoint : List ℕ) → RunStart → List Mark → List Call → Type 0
 AllGiven endpoint b marks calls = (line : ℕ) → sent line calls ≡ replies line endpoint b.first (events calls) marks
 
 -- The store stands for the state after all events, and has their steps, and no call of it failed. Nothing is pending, if
 -- nothing was when the run began.
-pub record AllKept (b : Base) (marks : List Mark) (calls : List Call) : Type 0 where
+pub record AllKept (b : RunStart) (marks : List Mark) (calls : List Call) : Type 0 where
   pub stands : Stands (files (history b calls)) (state_by b.first (events calls) marks) (b.steps + steps_by b.first (events calls) marks)
   pub quiet : IsQuietStore b.was → IsQuietStore (history b calls)
   pub unfailed : store_failed calls ≡ false
@@ -68,9 +68,13 @@ EndsFailed line (Drew purpose bytes ∷ calls) = ⊥
 
 -- A call of the store failed. Whole replies were given to all events but the newest, and the fault of the store for that, on
 -- its line; or there was no event, or a call of the line failed after that.
-pub record EndsFaulted (endpoint : List ℕ) (b : Base) (marks : List Mark) (calls : List Call) : Type 0 where
+pub record EndsFaulted (endpoint : List ℕ) (b : RunStart) (marks : List Mark) (calls : List Call) : Type 0 where
   pub failed : store_failed calls ≡ true
   pub given : ((line : ℕ) → sent line calls ≡ due line endpoint b.first (events calls) marks true) ⊎ EndsFailed 0 calls
+
+-- the line goes on behind the messages that were answered
+abbrev pub IsUnfinished : List Call → Type 0
+IsUnfinished calls = (rest : List ℕ) × (after most (length (events calls)) (taken 0 calls) ≡ Some (Going rest))
 
 -- the newest call shut the line
 abbrev pub EndsShut : List Call → Type 0
@@ -85,11 +89,11 @@ EndsShut (Told t ∷ calls) = ⊥
 EndsShut (Drew purpose bytes ∷ calls) = ⊥
 
 -- What a status says of the calls of the run.
-abbrev pub IsEnd : (endpoint : List ℕ) → Base → List Mark → Status → List Call → Type 0
+abbrev pub IsEnd : (endpoint : List ℕ) → RunStart → List Mark → Status → List Call → Type 0
 IsEnd endpoint b marks status.Done calls = AllGiven endpoint b marks calls × AllKept b marks calls × EndsClean calls × EndsShut calls
 IsEnd endpoint b marks (status.Rest place) calls = AllGiven endpoint b marks calls × AllKept b marks calls × EndsInside place calls × EndsShut calls
 IsEnd endpoint b marks (status.Unreadable place) calls = AllGiven endpoint b marks calls × AllKept b marks calls × EndsUnreadable place calls × EndsShut calls
-IsEnd endpoint b marks status.NoMemory calls = (at_end 0 calls ≡ false) × (store_failed calls ≡ false)
+IsEnd endpoint b marks status.NoMemory calls = AllGiven endpoint b marks calls × IsUnfinished calls × (at_end 0 calls ≡ false) × (failed_on 0 calls ≡ false) × (store_failed calls ≡ false)
 IsEnd endpoint b marks status.LinkFault calls = EndsFailed 0 calls × AllKept b marks calls × (at_end 0 calls ≡ false)
 IsEnd endpoint b marks status.StoreFault calls = EndsFaulted endpoint b marks calls × (at_end 0 calls ≡ false)
 IsEnd endpoint b marks status.Words calls = ⊥

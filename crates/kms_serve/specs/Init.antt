@@ -67,13 +67,13 @@ IsNoStore was = standing_of (files was) ≡ None
 abbrev pub IsStore : History → Type 0
 IsStore was = (s : Standing) × (standing_of (files was) ≡ Some s)
 
--- After some of the calls. Each crash image stands for what the files did before; or there was no store, a tag was drawn
--- by then, and the image is a fresh store of this tag. A store that was there is left alone.
+-- After some of the calls. Each crash image stands for what the files did before; or there was no store, the eight bytes of
+-- a tag were drawn by then, and the image is a fresh store of this tag. A store that was there is left alone.
 pub record IsUnderWay (store : List ℕ) (was : History) (calls : List Call) : Type 0 where
   pub alone : IsAlone store (apart_from_files calls)
   pub images : IsQuietStore was → (image : List ℕ × List ℕ) → IsImage (then_calls was calls) image
       → (standing_of image ≡ standing_of (files was))
-      ⊎ (IsNoStore was × ((bytes : List ℕ) × (apart_from_files calls ≡ drawing store (Some bytes)) × IsFreshStore image (tag_of bytes)))
+      ⊎ (IsNoStore was × ((bytes : List ℕ) × (length bytes ≡ 8) × (apart_from_files calls ≡ drawing store (Some bytes)) × IsFreshStore image (tag_of bytes)))
   pub kept : IsStore was → AreAsBefore was calls
 
 -- There was no store. Eight bytes were drawn, and the files as they read now are a fresh store of their tag.
@@ -97,7 +97,7 @@ IsInitEnd store status.Done was calls = IsCreated store was calls
 IsInitEnd store status.StoreExists was calls = IsStore was × (apart_from_files calls ≡ naming store (Ok tt))
 IsInitEnd store status.StoreFault was calls = 0 < failed_store_calls calls
 IsInitEnd store status.DrawFault was calls = IsUndrawn store was calls
-IsInitEnd store status.NoMemory was calls = Unit {0}
+IsInitEnd store status.NoMemory was calls = calls ≡ naming store (Err names.NoMemory)
 IsInitEnd store status.Words was calls = ⊥
 IsInitEnd store status.NoStore was calls = ⊥
 IsInitEnd store status.LinkFault was calls = ⊥

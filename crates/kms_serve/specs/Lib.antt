@@ -1,5 +1,4 @@
 pub mod Answered
-pub mod Base
 pub mod Crash
 pub mod Ends
 pub mod Events
@@ -8,6 +7,7 @@ pub mod Opening
 pub mod Owed
 pub mod Owing
 pub mod Replies
+pub mod RunStart
 pub mod Status
 pub mod StoreCalls
 pub mod Theorem

@@ -90,13 +90,13 @@ OnlyLeft line bytes (OnFile file c ∷ calls) = ⊥
 OnlyLeft line bytes (Told t ∷ calls) = ⊥
 OnlyLeft line bytes (Drew purpose random ∷ calls) = ⊥
 
--- All of these bytes were given on the line, or a front of them where the last call failed.
+-- All of these bytes were given on the line, or a prefix of them where the last call failed.
 pub record Gives {E : Type 0} (line : ℕ) (bytes : List ℕ) (result : Result (Unit {0}) E) (calls : List Call) : Type 0 where
   pub only : OnlyLeft line bytes calls
   pub whole : OnOk result ((sent line calls ≡ bytes) × (failed_on line calls ≡ false))
   pub failed : OnErr result (EndsFailed line calls)
 
--- All of these bytes of a fault were given on line 0, or a front of them, and then a call failed.
+-- All of these bytes of a fault were given on line 0, or a prefix of them, and then a call failed.
 pub record GivesFault (bytes : List ℕ) (calls : List Call) : Type 0 where
   pub only : OnlyLeft 0 bytes calls
   pub given : ((sent 0 calls ≡ bytes) × (failed_on 0 calls ≡ false)) ⊎ EndsFailed 0 calls

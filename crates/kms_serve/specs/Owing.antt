@@ -8,7 +8,7 @@ use Rattle.kms_core.specs.Steps.{IsSettled}
 use Rattle.kms_model.specs.declared.event.Mark.{Mark}
 use Rattle.kms_http.specs.Stream.{After, after}
 use Rattle.kms_http.specs.Stream.After.{Going}
-use Rattle.kms_serve.specs.Base.{Base, history}
+use Rattle.kms_serve.specs.RunStart.{RunStart, history}
 use Rattle.kms_serve.specs.Events.{events, most}
 use Rattle.kms_serve.specs.Replies.{replies, state_by, steps_by}
 use Rattle.kms_serve.specs.Answered.{Answered}
@@ -24,7 +24,7 @@ on_line line bytes = if 0 == line then bytes else []
 -- The theorem holds at each moment so far, the program's state is that of the plain key manager, and so is what the store
 -- stands for. The stream stands so behind the messages that were answered, and these bytes of their replies are prepared
 -- and not given yet.
-pub record OwingAt (endpoint : List ℕ) (b : Base) (s : Serving) (stand : After) (owed : List ℕ) (calls : List Call) : Type 0 where
+pub record OwingAt (endpoint : List ℕ) (b : RunStart) (s : Serving) (stand : After) (owed : List ℕ) (calls : List Call) : Type 0 where
   pub marks : List Mark
   pub each : AtEach (Answered endpoint b marks) calls
   pub marked : length (events calls) ≡ length marks
@@ -41,11 +41,11 @@ pub record OwingAt (endpoint : List ℕ) (b : Base) (s : Serving) (stand : After
   pub unfailed : store_failed calls ≡ false
 
 -- between two turns nothing is owed, and the line goes on with the bytes that the reader holds
-abbrev pub GoodAt : (endpoint : List ℕ) → Base → Serving → List Call → Type 0
+abbrev pub GoodAt : (endpoint : List ℕ) → RunStart → Serving → List Call → Type 0
 GoodAt endpoint b s calls = OwingAt endpoint b s (Going s.reader.held) [] calls
 
 -- after the last turn
-pub record EndedAt (endpoint : List ℕ) (b : Base) (s : Status) (calls : List Call) : Type 0 where
+pub record EndedAt (endpoint : List ℕ) (b : RunStart) (s : Status) (calls : List Call) : Type 0 where
   pub marks : List Mark
   pub each : AtEach (Answered endpoint b marks) calls
   pub marked : length (events calls) ≡ length marks

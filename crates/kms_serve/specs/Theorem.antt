@@ -1,5 +1,5 @@
 -- The theorem of the top call.
-use Rattle.std.specs.Prelude.{◌≡◌, ◌⊎◌, ℕ, ◌≤◌, List, [], length, false, Option, Some, None}
+use Rattle.std.specs.Prelude.{◌≡◌, ℕ, ◌≤◌, List, [], length, true, false, Option, Some, None}
 use Rattle.kms_host.specs.Disk.{files}
 use Rattle.kms_host.specs.History.{History}
 use Rattle.kms_host.specs.Moment.{Since, by_moment}
@@ -8,8 +8,8 @@ use Rattle.kms_world.specs.State.{State}
 use Rattle.kms_core.specs.Stands.{Stands}
 use Rattle.kms_model.specs.declared.event.Mark.{Mark}
 use Rattle.kms_serve.specs.Answered.{Answered}
-use Rattle.kms_serve.specs.Base.{Base, FromStore}
-use Rattle.kms_serve.specs.Ends.{AllGiven, IsEnd, EndsClean, EndsInside, EndsUnreadable}
+use Rattle.kms_serve.specs.RunStart.{RunStart, FromStore}
+use Rattle.kms_serve.specs.Ends.{AllGiven, IsEnd, EndsClean, EndsInside, EndsUnreadable, EndsFailed}
 use Rattle.kms_serve.specs.Events.{events}
 use Rattle.kms_serve.specs.Init.{Inits}
 use Rattle.kms_serve.specs.Opening.{IsUnopened}
@@ -18,18 +18,20 @@ use Rattle.kms_serve.specs.Words.{Pipe}
 use Rattle.kms_serve.specs.declared.status.Status.{Status}
 use Rattle.kms_serve.specs.declared.status.Status.TheVariants as status
 
--- The calls of the run determine its status, up to out of memory, where no call of the store failed.
+-- The calls of the run determine its status, but for where it ran out of memory while the line went on.
 pub record Exact (s : Status) (calls : List Call) (whole : Type 0) : Type 0 where
-  pub done : EndsClean calls → whole → store_failed calls ≡ false → (s ≡ status.Done) ⊎ (s ≡ status.NoMemory)
+  pub done : EndsClean calls → whole → store_failed calls ≡ false → s ≡ status.Done
   pub rest : (place : ℕ) → EndsInside place calls → s ≡ status.Rest place
-  pub unreadable : (place : ℕ) → EndsUnreadable place calls → whole → store_failed calls ≡ false → (s ≡ status.Unreadable place) ⊎ (s ≡ status.NoMemory)
+  pub unreadable : (place : ℕ) → EndsUnreadable place calls → whole → store_failed calls ≡ false → s ≡ status.Unreadable place
+  pub link : EndsFailed 0 calls → store_failed calls ≡ false → s ≡ status.LinkFault
+  pub store : store_failed calls ≡ true → s ≡ status.StoreFault
 
 -- A run that began so and made these calls, the newest first, ended so. There is one list of marks, one for each request:
 -- which of them were out of memory. With it, at each moment of the run, what was sent is what is due, as far as it went: what
 -- the plain key manager answers, or a constant reply where a request was out of memory, and for the newest where a call of
 -- the store failed. And what a stop leaves of the store, if nothing was pending when the run began, stands for the plain key
--- manager's state after a number of these requests that holds each one whose reply was begun.
-pub record Serves (endpoint : List ℕ) (b : Base) (s : Status) (calls : List Call) : Type 0 where
+-- manager's state after a number of these requests that holds each one that was acknowledged.
+pub record Serves (endpoint : List ℕ) (b : RunStart) (s : Status) (calls : List Call) : Type 0 where
   pub marks : List Mark
   pub each : (moment : ℕ) → moment ≤ length calls → Answered endpoint b marks (by_moment moment calls)
   pub marked : length (events calls) ≡ length marks
@@ -41,7 +43,7 @@ abbrev pub StandForNone : List ℕ × List ℕ → Type 0
 StandForNone two = (first : State) (steps : ℕ) → Stands two first steps → ⊥
 
 -- A run that serves a store: where it stands for a state the run begins with that. Where it stands for none it is refused, and
--- what it stands for stays the same.
+-- what a stop leaves stands for what the files did, if nothing was pending when the run began.
 pub record Carries (endpoint store : List ℕ) (s : Status) (was : History) (calls : List Call) : Type 0 where
   pub serves : FromStore store was (λ b. Serves endpoint b s calls)
   pub refuses : StandForNone (files was) → IsUnopened store s was calls

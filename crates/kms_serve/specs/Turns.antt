@@ -8,7 +8,7 @@ use Rattle.kms_core.specs.Steps.{Held, IsSettled}
 use Rattle.kms_http.specs.Stream.{After, front, longest}
 use Rattle.kms_http.specs.Stream.Front.{Whole}
 use Rattle.kms_http.specs.declared.request.Request.{Request}
-use Rattle.kms_serve.specs.Base.{FromStore}
+use Rattle.kms_serve.specs.RunStart.{FromStore}
 use Rattle.kms_serve.specs.Events.{most}
 use Rattle.kms_serve.specs.Owing.{OwingAt, GoodAt, EndedAt}
 use Rattle.kms_serve.specs.declared.serving.Serving.{Serving}

@@ -30,7 +30,7 @@ const MOST: u64 = 10_000_000;
 /// How many bytes are taken at once, at most.
 const ROOM: usize = 65536;
 
-// More bytes of the line, or its end. What the reader holds is the begin of a message, or nothing.
+// More bytes of the line, or its end. What the reader holds is the beginning of a message, or nothing.
 fn take_more<H: Host>(host: &mut H, s: &mut Serving, room: &mut [u8]) -> Turn
     requires room { length room.old ≡ 65536 }
     requires part { front s.old.reader.held ≡ Part }

@@ -126,8 +126,7 @@ fn reply<H: Host>(
     }
 }
 
-/// Prepares the reply to what was read as the message behind `count` others: its time is told, it is asked, printed,
-/// accepted and settled. It changes nothing where that is out of memory. The fault of the store is owed in the place of
+/// Prepares the reply to what was read as a message: its time is told, it is asked, printed, accepted and settled. It changes nothing where that is out of memory. The fault of the store is owed in the place of
 /// the reply where a call of the store failed.
 pub fn prepare<H: Host>(
     alloc: Global,

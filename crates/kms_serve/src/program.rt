@@ -43,9 +43,10 @@ fn serve_store<H: Host>(alloc: Global, store: &str, endpoint: &str, host: &mut H
 /// moment is what the plain key manager answers, as far as it went, with a constant reply for a request that was out of
 /// memory, and for the last one where a call of the store failed; and if nothing was pending on the files when the run
 /// began, whatever a stop at that moment leaves of them stands for the plain key manager's state after a number of these
-/// requests that holds each one whose reply was begun. Where the files stand for no state nothing is sent, and what they
-/// stand for stays the same. Whether the host tells or not, words that are not understood are answered as such with no
-/// call made, and a fault only where its count rose.
+/// requests that holds each one that was acknowledged, so that a byte of its reply was sent. Where the files stand for no
+/// state nothing is sent, and if nothing was pending on them, whatever a stop leaves stands for what they did. Whether the
+/// host tells or not, words that are not understood are answered as such with no call made, and a fault only where its
+/// count rose.
 pub fn run<H: Host>(alloc: Global, words: &[String], host: &mut H) -> Status
     // A line that was shut can't be served, and a host has one store.
     requires line { WhereTold (H.history host.old) (IsOpen 0) }

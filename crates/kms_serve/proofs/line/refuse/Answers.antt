@@ -4,7 +4,7 @@ use Rattle.kms_host.specs.declared.call.Failed.{Failed}
 use Rattle.kms_http.specs.Stream.{served}
 use Rattle.kms_http.specs.Stream.After.{Broken}
 use Rattle.kms_http.specs.Stream.Served.{Unreadable}
-use Rattle.kms_serve.specs.Base.{FromStore}
+use Rattle.kms_serve.specs.RunStart.{FromStore}
 use Rattle.kms_serve.specs.Owed.{owed_bytes}
 use Rattle.kms_serve.specs.Owing.{EndedAt}
 use Rattle.kms_serve.specs.declared.serving.Serving.{Serving}

@@ -1,12 +1,12 @@
 use Rattle.std.proofs.Common.{refl}
 use Rattle.kms_host.proofs.FaultLaws.{never_falls_same, stops_same}
 use Rattle.kms_host.proofs.Moments.{since_weaker}
-use Rattle.kms_serve.specs.Base.{base, FromStore}
+use Rattle.kms_serve.specs.RunStart.{run_start, FromStore}
 use Rattle.kms_serve.specs.Owing.{EndedAt}
 use Rattle.kms_serve.specs.Turns.{serving_of}
 use Rattle.kms_serve.specs.declared.serving.Serving.{Serving}
 use Rattle.kms_serve.specs.declared.status.Status.TheVariants as status
-use Rattle.kms_serve.proofs.OwingLaws.{ended_wanted}
+use Rattle.kms_serve.proofs.OwingLaws.{ended_out_of_memory}
 use Rattle.kms_serve.proofs.TurnLaws.{bounded_first}
 use Rattle.kms_serve.proofs.line.serve_line.Goals as goal
 
@@ -26,4 +26,4 @@ loop-status-init g c =
 pub returns-in_default-clause-ended : goal.returns-in_default-clause-ended
 returns-in_default-clause-ended g c store start good =
     since_weaker (λ was calls. FromStore store was (λ b. EndedAt c.args.endpoint.now b status.NoMemory calls)) good
-    (λ was calls h first steps stands. ended_wanted c.args.endpoint.now (base store was first steps) (serving_of c.args.engine) calls (h first steps stands))
+    (λ was calls h first steps stands. ended_out_of_memory c.args.endpoint.now (run_start store was first steps) (serving_of c.args.engine) calls (h first steps stands))

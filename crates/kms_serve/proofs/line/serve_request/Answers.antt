@@ -2,7 +2,7 @@ use Rattle.std.proofs.Common.{◌+◌, refl, sym, ap, ◌∙◌}
 use Rattle.kms_host.proofs.Moments.{since_since, known_with}
 use Rattle.kms_http.specs.Stream.{served}
 use Rattle.kms_http.specs.Stream.Served.{Asking}
-use Rattle.kms_serve.specs.Base.{FromStore}
+use Rattle.kms_serve.specs.RunStart.{FromStore}
 use Rattle.kms_serve.specs.Owed.{owed_bytes}
 use Rattle.kms_serve.specs.Owing.{EndedAt}
 use Rattle.kms_serve.specs.declared.serving.Serving.{Serving}

@@ -5,9 +5,9 @@ use Rattle.kms_host.specs.Line.{IsOpen}
 use Rattle.kms_host.proofs.Moments.{since_add, since_two, known_weaker, known_with_told}
 use Rattle.kms_serve.specs.declared.serving.Serving.{Serving}
 use Rattle.kms_serve.specs.declared.status.Status.TheVariants as status
-use Rattle.kms_serve.specs.Base.{FromStore}
+use Rattle.kms_serve.specs.RunStart.{FromStore}
 use Rattle.kms_serve.specs.Owing.{GoodAt, EndedAt}
-use Rattle.kms_serve.proofs.OwingLaws.{good_took, ended_took_wanted, ended_took_fault, ended_clean, ended_rest, filled_take}
+use Rattle.kms_serve.proofs.OwingLaws.{good_took, ended_took_out_of_memory, ended_took_fault, ended_clean, ended_rest, filled_take}
 use Rattle.kms_serve.specs.Turns.{CanServe}
 use Rattle.kms_serve.proofs.PrepareLaws.{ready_took}
 use Rattle.kms_serve.proofs.TurnLaws.{fed_more}
@@ -52,7 +52,7 @@ pub returns-in-Err-clause-good : goal.returns-in-Err-clause-good
 returns-in-Err-clause-good g c endpoint store start good =
     let size : length c.take.new.room ≡ 65536 = omega (arith, c.take.auto.room, c.requires.room) in
     since_add (λ was calls. FromStore store was (λ b. EndedAt endpoint b status.NoMemory calls)) good c.in-Ok.ensures.told
-    (λ was x h first steps stands. ended_took_wanted endpoint _ c.args.s.now _ _ size c.requires.part (filled_take c.in-Ok.count c.take.new.room (omega (arith, c.if-count-eq0.false)) c.in-Ok.ensures.bound) x (h first steps stands))
+    (λ was x h first steps stands. ended_took_out_of_memory endpoint _ c.args.s.now _ _ size c.requires.part (filled_take c.in-Ok.count c.take.new.room (omega (arith, c.if-count-eq0.false)) c.in-Ok.ensures.bound) x (h first steps stands))
 
 pub take-requires-clause-open_line : goal.take-requires-clause-open_line
 take-requires-clause-open_line g c = known_weaker (IsOpen 0) c.requires.ready (λ now k. k.unshut)

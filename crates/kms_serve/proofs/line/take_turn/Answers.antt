@@ -1,10 +1,10 @@
 use Rattle.std.proofs.Common.{refl}
 use Rattle.kms_host.proofs.Moments.{since_weaker}
-use Rattle.kms_serve.specs.Base.{base, FromStore}
+use Rattle.kms_serve.specs.RunStart.{run_start, FromStore}
 use Rattle.kms_serve.specs.Owing.{EndedAt}
 use Rattle.kms_serve.specs.declared.serving.Serving.{Serving}
 use Rattle.kms_serve.specs.declared.status.Status.TheVariants as status
-use Rattle.kms_serve.proofs.OwingLaws.{ended_wanted}
+use Rattle.kms_serve.proofs.OwingLaws.{ended_out_of_memory}
 use Rattle.kms_serve.proofs.TurnLaws.{taken_passed, taken_held}
 use Rattle.kms_serve.proofs.line.take_turn.Goals as goal
 
@@ -33,4 +33,4 @@ returns-in-Ok-More-clause-good g c store start good =
 pub returns-in-Err-clause-good : goal.returns-in-Err-clause-good
 returns-in-Err-clause-good g c store start good =
     since_weaker (λ was calls. FromStore store was (λ b. EndedAt c.args.endpoint.now b status.NoMemory calls)) good
-    (λ was calls h first steps stands. ended_wanted c.args.endpoint.now (base store was first steps) c.args.s.now calls (h first steps stands))
+    (λ was calls h first steps stands. ended_out_of_memory c.args.endpoint.now (run_start store was first steps) c.args.s.now calls (h first steps stands))

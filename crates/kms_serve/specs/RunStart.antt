@@ -7,7 +7,7 @@ use Rattle.kms_host.specs.declared.call.Call.{Call}
 use Rattle.kms_world.specs.State.{State}
 use Rattle.kms_core.specs.Stands.{Stands}
 
-pub record Base : Type 0 where
+pub record RunStart : Type 0 where
   -- the name of the store
   pub store : List ℕ
   -- what was told when the run began
@@ -17,12 +17,12 @@ pub record Base : Type 0 where
   pub steps : ℕ
 
 -- what is told after these calls of the run
-abbrev pub history : Base → List Call → History
+abbrev pub history : RunStart → List Call → History
 history b calls = then_calls b.was calls
 
-abbrev pub base : (store : List ℕ) → History → State → (steps : ℕ) → Base
-base store was first steps = record { store = store; was = was; first = first; steps = steps }
+abbrev pub run_start : (store : List ℕ) → History → State → (steps : ℕ) → RunStart
+run_start store was first steps = record { store = store; was = was; first = first; steps = steps }
 
 -- P holds of what a run begins with, where the store of this name stands for a state
-abbrev pub FromStore : List ℕ → History → (Base → Type 0) → Type 0
-FromStore store was P = (first : State) (steps : ℕ) → Stands (files was) first steps → P (base store was first steps)
+abbrev pub FromStore : List ℕ → History → (RunStart → Type 0) → Type 0
+FromStore store was P = (first : State) (steps : ℕ) → Stands (files was) first steps → P (run_start store was first steps)
