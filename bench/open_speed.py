@@ -8,6 +8,7 @@ Run by hand at the top of the repository, after ./quickstart has built the progr
 """
 import resource
 import subprocess
+import sys
 import tempfile
 import time
 from pathlib import Path
@@ -46,6 +47,8 @@ def opening(name: Path) -> float:
 
 
 def main() -> None:
+    if not PROGRAM.exists():
+        sys.exit("run ./quickstart first")
     with tempfile.TemporaryDirectory(dir=".") as folder:
         for count in COUNTS:
             name = Path(folder) / f"s{count}"

@@ -36,6 +36,8 @@ def pipe(store: Path, stream: bytes) -> tuple[float, bytes]:
 
 
 def main() -> None:
+    if not PROGRAM.exists():
+        sys.exit("run ./quickstart first")
     posts = int(sys.argv[1]) if len(sys.argv) > 1 else 1_000
     gets = int(sys.argv[2]) if len(sys.argv) > 2 else 10_000
     with tempfile.TemporaryDirectory(dir=".") as folder:
