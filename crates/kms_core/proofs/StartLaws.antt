@@ -1,5 +1,5 @@
 -- What is started over a store, and what is refused.
-use Rattle.std.proofs.Common.{◌≡◌, inl, inr, ℕ, Bool, false, List, [], ◌∷◌, length, get_or, Some, None, refl, sym, ap, subst, ◌∙◌, arith}
+use Rattle.std.proofs.Common.{◌≡◌, inl, inr, ℕ, Bool, false, List, [], ◌∷◌, length, get_or, None, refl, sym, ap, subst, ◌∙◌, arith}
 use Rattle.std.specs.Prelude.{Ok, Err}
 use Rattle.kms_host.specs.History.{History}
 use Rattle.kms_host.specs.Disk.{Disk, MayLeave}
@@ -110,7 +110,7 @@ module _ (p : Position) (was mid now : History) (o : OpensJournal (Ok p) was mid
             let s = o.answer.0 in
             (s, l.0, o.answer.1, l.1 ∙ ap (λ (c : Chain). Body c.file l.0) g.answer, broken_store s l.0 (subst (λ (c : Chain). IsBrokenAt c l.0) g.answer l.2))
 
-    pub started_at : (kept : Kept) (engine : Held) → Loads chain (Ok kept) → engine ≡ record { state = kept.state; room = false; store = Some (record { journal = p; waiting = None }) } → Starts (Ok engine) was now
+    pub started_at : (kept : Kept) (engine : Held) → Loads chain (Ok kept) → engine ≡ record { state = kept.state; room = false; store = record { journal = p; waiting = None } } → Starts (Ok engine) was now
     started_at kept engine l is =
         let s = o.answer.0 in
         let g = gathers s o.answer.2 in
@@ -123,7 +123,7 @@ module _ (p : Position) (was mid now : History) (o : OpensJournal (Ok p) was mid
           answer = (
             steps.0,
             record { standing = s; current = o.answer.1; kept = keeps; counted = steps.1 },
-            (record { journal = p; waiting = None }, refl, refl, record { standing = s; placed = now_placed; kept = keeps; counted = steps.1; ahead = refl }),
+            record { idle = refl; opened = record { standing = s; placed = now_placed; kept = keeps; counted = steps.1; ahead = refl } },
             λ quiet. quiet_after mid now (at_last (IsUntouched mid) mid now g.throughout) (o.answer.3 quiet),
           );
         })

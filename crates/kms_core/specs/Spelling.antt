@@ -1,9 +1,8 @@
 -- A step that is spelled behind others.
-use Rattle.std.specs.Prelude.{◌≡◌, ℕ, ◌<◌, ◌+◌, ◌^◌, [], Option, Some, None, IfSome}
+use Rattle.std.specs.Prelude.{◌≡◌, ℕ, ◌<◌, ◌+◌, ◌^◌, [], Option, Some, None}
 use Rattle.kms_world.specs.State.{State}
 use Rattle.kms_world.specs.declared.secret.SecretRow.{SecretRow}
 use Rattle.kms_model.specs.AskSecret.{next_id, with_secret}
-use Rattle.kms_core.specs.Steps.{Held}
 use Rattle.kms_core.specs.Waiting.{Spelled, IsAhead, count_of}
 
 -- the row is a new one of the state: it has the next id, and nothing in it but attributes
@@ -15,9 +14,5 @@ pub record IsNew (state : State) (row : SecretRow) : Type 0 where
 
 -- With the row's step behind them the steps that wait are one more, and lead to the state with this secret.
 abbrev pub LeadsBehind : Option Spelled → ℕ → SecretRow → Spelled → Type 0
-LeadsBehind before count row waiting = (count_of (Some waiting) ≡ count_of before + 1)
+LeadsBehind before count row waiting = (waiting.count ≡ count_of before + 1)
     × ((settled state : State) → state.ids ≡ count → IsNew state row → IsAhead before settled state → IsAhead (Some waiting) settled (with_secret state row))
-
-abbrev pub IsPutBehind : Held → SecretRow → Option Spelled → Type 0
-IsPutBehind engine row waiting = IfSome engine.store (λ store. (count_of waiting ≡ count_of store.waiting + 1)
-    × ((settled : State) → IsNew engine.state row → IsAhead store.waiting settled engine.state → IsAhead waiting settled (with_secret engine.state row)))

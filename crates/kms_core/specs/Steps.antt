@@ -1,5 +1,5 @@
 -- Steps, and what preparing one promises.
-use Rattle.std.specs.Prelude.{◌≡◌, ℕ, ◌<◌, ◌+◌, ◌^◌, Option, Some, None, Bool, IsTrue, IfSome}
+use Rattle.std.specs.Prelude.{◌≡◌, ℕ, ◌<◌, ◌+◌, ◌^◌, Option, Some, None, Bool, IsTrue}
 use Rattle.kms_world.specs.State.{State}
 use Rattle.kms_world.specs.Times.{IsTimely}
 use Rattle.kms_model.specs.AskSecret.{with_secret}
@@ -8,11 +8,11 @@ use Rattle.kms_core.specs.Settling.{IsOpened}
 use Rattle.kms_core.specs.Waiting.{Keeping, IsAhead, count_of}
 use Rattle.kms_core.specs.declared.step.Step.{Step}
 
--- what contracts see of an engine: its state, whether there is room for a step, and its store, if it has one
+-- what contracts see of an engine: its state, whether there is room for a step, and its store
 pub record Held : Type 0 where
   pub state : State
   pub room : Bool
-  pub store : Option Keeping
+  pub store : Keeping
 
 abbrev pub after_step : State → Step → State
 after_step s step = with_secret s step.secret
@@ -28,16 +28,16 @@ abbrev pub Prepares : Option Step → State → State → Bool → Type 0
 Prepares None before after room = after ≡ before
 Prepares (Some step) before after room = LeadsTo step before after room
 
--- Where the engine has a store, the step is spelled behind the steps that wait there: they are one more, and together
--- they lead on.
+-- The step is spelled behind the steps that wait: they are one more, and together they lead on.
 abbrev pub IsSpelledBehind : Held → Step → Type 0
-IsSpelledBehind engine step = IfSome engine.store (λ store. (count_of step.waiting ≡ count_of store.waiting + 1)
-    × ((settled : State) → IsAhead store.waiting settled engine.state → IsAhead step.waiting settled (after_step engine.state step)))
+IsSpelledBehind engine step = (step.waiting.count ≡ count_of engine.store.waiting + 1)
+    × ((settled : State) → IsAhead engine.store.waiting settled engine.state → IsAhead (Some step.waiting) settled (after_step engine.state step))
 
 -- no step waits
 abbrev pub IsIdle : Held → Type 0
-IsIdle engine = IfSome engine.store (λ store. store.waiting ≡ None)
+IsIdle engine = engine.store.waiting ≡ None
 
--- The engine has a store, which stands for its state after so many steps, and no step waits.
-abbrev pub IsSettled : Held → ℕ → History → Type 0
-IsSettled engine steps h = (store : Keeping) × (engine.store ≡ Some store) × (store.waiting ≡ None) × IsOpened store h engine.state steps engine.state
+-- The engine's store stands for its state after so many steps, and no step waits.
+pub record IsSettled (engine : Held) (steps : ℕ) (h : History) : Type 0 where
+  pub idle : IsIdle engine
+  pub opened : IsOpened engine.store h engine.state steps engine.state

@@ -1,6 +1,6 @@
 // The engine and its calls.
-ghost use Rattle.std.specs.Prelude.{◌≡◌, ℕ, ◌<◌, ◌^◌, IfOk, Some, None, Ok, is_some, is_err, IfSome, option_map, OnOk, OnErr, IsTrue};
-ghost use Rattle.kms_world.specs.State.{State, empty_state};
+ghost use Rattle.std.specs.Prelude.{◌≡◌, ℕ, ◌<◌, ◌^◌, IfOk, Some, Ok, is_some, is_err, IfSome, OnOk, OnErr, IsTrue};
+ghost use Rattle.kms_world.specs.State.{State};
 ghost use Rattle.kms_world.specs.Times.{HasTimes, IsTimely};
 ghost use Rattle.kms_model.specs.Ask.{answer_to, state_after, stores};
 ghost use Rattle.kms_host.specs.Faults.{HasCause};
@@ -11,18 +11,18 @@ ghost use Rattle.kms_journal.specs.Position.{IsPlaced};
 ghost use Rattle.kms_journal.specs.Standing.{Standing};
 ghost use Rattle.kms_core.specs.Steps.{after_step, Prepares, IsIdle, IsSpelledBehind};
 ghost use Rattle.kms_core.specs.Settling.{IsOpened, Settles};
-ghost use Rattle.kms_core.specs.Waiting.{Keeping, count_of, with_waiting};
+ghost use Rattle.kms_core.specs.Waiting.{count_of, with_waiting};
 
 use crate::opened::Opened;
 use crate::{AskFault, Asked, Step};
 use kms_host::Host;
 use kms_journal::StoreFault;
-use kms_world::{Answer, Caller, NoMemory, Op, SecretRow};
+use kms_world::{Answer, Caller, Op, SecretRow};
 use std::alloc::Global;
 use std::marker::Model;
 
-/// The key manager's state in memory, over a store or without one. Contracts see the state, whether there is room for a
-/// step, and of the store where its journal stands and the steps that wait to be settled.
+/// The key manager's state in memory, over a store. Contracts see the state, whether there is room for a step, and of the
+/// store where its journal stands and the steps that wait to be settled.
 #[derive(Drop)]
 pub struct Engine {
     pub(crate) alloc: Global,
@@ -30,7 +30,7 @@ pub struct Engine {
     pub(crate) ids: u64,
     pub(crate) secrets: Vec<SecretRow>,
     pub(crate) room: bool,
-    pub(crate) store: Option<Opened>,
+    pub(crate) store: Opened,
 }
 
 impl Model for Engine {
@@ -46,24 +46,9 @@ impl Model for Engine {
 }
 
 impl Engine {
-    /// An engine with nothing stored, under a tag below 2^60, and without a store.
-    pub fn empty(alloc: Global, tag: u64) -> Result<Engine, NoMemory>
-        requires { tag < 2 ^ 60 }
-        ensures { IfOk result (λ engine. engine.state ≡ empty_state tag) }
-    {
-        Ok(Engine {
-            alloc,
-            tag,
-            ids: 0,
-            secrets: Vec::new(alloc),
-            room: false,
-            store: None,
-        })
-    }
-
     /// The plain key manager's answer to an operation of a caller at a time in seconds since 1970, and the step that
     /// it needs: one exactly where the operation is accepted and writes. No row changes. After a fault nothing has
-    /// changed. Over a store fewer than 1,152 accepted steps may wait to be settled.
+    /// changed. Fewer than 1,152 accepted steps may wait to be settled.
     pub fn ask<H: Host>(
         &mut self,
         host: &mut H,
@@ -72,7 +57,7 @@ impl Engine {
         moment: u64,
     ) -> Result<Asked, AskFault>
         requires time { moment < 253402300800 }
-        requires few { IfSome self.old.store (λ store. count_of store.waiting < 1152) }
+        requires few { count_of self.old.store.waiting < 1152 }
         ensures answer { IfOk result (λ a. a.answer ≡ answer_to self.old.state caller.now op moment) }
         ensures step { IfOk result (λ a. Prepares a.step self.old.state (state_after self.old.state caller.now op moment) self.new.room) }
         ensures stores { IfOk result (λ a. is_some a.step ≡ stores self.old.state caller.now op moment) }
@@ -92,20 +77,18 @@ impl Engine {
         }
     }
 
-    /// Takes over the step that the last call of `ask` prepared. It can't fail. Over a store the step waits to be settled.
+    /// Takes over the step that the last call of `ask` prepared. It can't fail. The step waits to be settled.
     pub fn accept(&mut self, step: Step)
         requires room { IsTrue self.old.room }
         requires ids { self.old.state.ids < 2 ^ 62 }
         requires times { IsTimely step.secret }
         ensures state { self.new.state ≡ after_step self.old.state step }
-        ensures store { self.new.store ≡ option_map (with_waiting step.waiting) self.old.store }
+        ensures store { self.new.store ≡ with_waiting (Some step.waiting) self.old.store }
     {
         let Step { secret, waiting } = step;
         self.ids += 1;
         self.room = false;
-        if let Some(store) = &mut self.store {
-            store.waiting = waiting;
-        }
+        self.store.wait(waiting);
         let pushed = self.secrets.push(secret);
         pushed.unwrap();
     }
@@ -114,11 +97,10 @@ impl Engine {
     /// no step that waits it makes no call on the host. From an Ok on they are on the disk. After a fault the store has
     /// all of them or none: start another engine.
     pub fn settle<H: Host>(&mut self, host: &mut H) -> Result<(), StoreFault>
-        requires placed { IfSome self.old.store (λ store. IsTrue (is_some store.waiting)
-            → WhereTold (H.history host.old) (λ h. (s : Standing) × IsPlaced store.journal h s)) }
-        ensures told { Tells (H.history host.old) (H.history host.new) (λ was now. (store : Keeping) (settled : State) (steps : ℕ)
-            → self.old.store ≡ Some store → IsOpened store was settled steps self.old.state
-            → (new : Keeping) × (self.new.store ≡ Some new) × Settles new result settled steps self.old.state (count_of store.waiting) was now) }
+        requires placed { IsTrue (is_some self.old.store.waiting) → WhereTold (H.history host.old) (λ h. (s : Standing) × IsPlaced self.old.store.journal h s) }
+        ensures told { Tells (H.history host.old) (H.history host.new) (λ was now. (settled : State) (steps : ℕ)
+            → IsOpened self.old.store was settled steps self.old.state
+            → Settles self.new.store result settled steps self.old.state (count_of self.old.store.waiting) was now) }
         ensures same { self.new.state ≡ self.old.state }
         ensures ok { OnOk result (IsIdle self.new) }
         ensures err { OnErr result (self.new ≡ self.old) }
@@ -127,9 +109,6 @@ impl Engine {
         ensures failed { Tells (H.history host.old) (H.history host.new) (Fails (is_err result)) }
         ensures stops { Stops (H.wanted host.old) (H.wanted host.new) (H.history host.old) (H.history host.new) }
     {
-        match &mut self.store {
-            Some(store) => store.settle(host),
-            None => Ok(()),
-        }
+        self.store.settle(host)
     }
 }

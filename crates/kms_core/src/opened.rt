@@ -1,5 +1,5 @@
 // An opened store.
-ghost use Rattle.std.specs.Prelude.{◌≡◌, ℕ, None, Ok, IsTrue, is_some, is_err, OnOk, OnErr};
+ghost use Rattle.std.specs.Prelude.{◌≡◌, ℕ, Some, None, Ok, IsTrue, is_some, is_err, OnOk, OnErr};
 ghost use Rattle.kms_world.specs.State.{State};
 ghost use Rattle.kms_host.specs.Faults.{HasCause};
 ghost use Rattle.kms_host.specs.History.{Tells, WhereTold, Stops};
@@ -8,7 +8,7 @@ ghost use Rattle.kms_journal.specs.Fault.{Fails};
 ghost use Rattle.kms_journal.specs.Position.{IsPlaced};
 ghost use Rattle.kms_journal.specs.Standing.{Standing};
 ghost use Rattle.kms_core.specs.Settling.{IsOpened, Settles};
-ghost use Rattle.kms_core.specs.Waiting.{count_of};
+ghost use Rattle.kms_core.specs.Waiting.{count_of, with_waiting};
 
 use crate::waiting::Waiting;
 use kms_host::Host;
@@ -33,6 +33,13 @@ impl Model for Opened {
 }
 
 impl Opened {
+    /// These steps wait, in the place of those that did.
+    pub(crate) fn wait(&mut self, waiting: Waiting)
+        ensures { self.new ≡ with_waiting (Some waiting) self.old }
+    {
+        self.waiting = Some(waiting);
+    }
+
     /// Writes the steps that wait to the store, as one record. With none it makes no call.
     pub(crate) fn settle<H: Host>(&mut self, host: &mut H) -> Result<(), StoreFault>
         requires placed { IsTrue (is_some self.old.waiting) → WhereTold (H.history host.old) (λ h. (s : Standing) × IsPlaced self.old.journal h s) }

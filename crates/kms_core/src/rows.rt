@@ -1,6 +1,5 @@
 // The rows to which the records of a store lead.
 ghost use Rattle.std.specs.Prelude.{◌≡◌, ◌<◌, ◌≤◌, ◌^◌, Some, None, IsErrOf, OnOk};
-ghost use Rattle.std.specs.List.{AllByRecursion};
 ghost use Rattle.kms_record.specs.Grammar.{IsChange, IsStep, AreSteps};
 ghost use Rattle.kms_record.specs.Kept.{after_change, after_step, after_record};
 ghost use Rattle.kms_core.specs.Stands.{Applies, IsBroken, kept_first};

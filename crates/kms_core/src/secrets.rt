@@ -1,18 +1,14 @@
 // Operations on secrets.
 ghost use Rattle.std.specs.Prelude.{◌≡◌, ◌<◌, IfOk, is_some, IfSome, None, option_copied, find};
 ghost use Rattle.kms_model.specs.AskSecret.{is_secret, is_live, is_short_name, is_stored, posted_answer, posted_state, secret_at, found_answer};
-ghost use Rattle.kms_record.specs.SecretPut.{IsInRange, put_of};
 ghost use Rattle.kms_core.specs.Steps.{Prepares, IsSpelledBehind};
-ghost use Rattle.kms_core.specs.Spelling.{IsPutBehind};
 ghost use Rattle.kms_core.specs.Waiting.{count_of};
 ghost use Rattle.kms_world.specs.Times.{HasTimes};
 
 use crate::spelling::spell;
-use crate::waiting::Waiting;
 use crate::{AskFault, Asked, Engine, Step};
 use kms_world::{
-    Answer, Caller, Field, Id, Link, NoMemory, Pairs, Refusal, SecretBody, SecretKind, SecretRow,
-    Text, id_of,
+    Answer, Caller, Field, Id, Link, Pairs, Refusal, SecretBody, SecretKind, SecretRow, Text, id_of,
 };
 
 // Where there is a name, it has at most 255 bytes.
@@ -59,18 +55,6 @@ fn refused(refusal: Refusal) -> Asked
 }
 
 impl Engine {
-    // Where the engine has a store: the steps that wait there, and the one that adds this secret.
-    fn spelled(&self, secret: &SecretRow) -> Result<Option<Waiting>, NoMemory>
-        requires few { IfSome self.now.store (λ store. count_of store.waiting < 1152) }
-        requires range { IsInRange (put_of self.now.state.ids secret.now) }
-        ensures { IfOk result (λ waiting. IsPutBehind self.now secret.now waiting) }
-    {
-        match &self.store {
-            Some(store) => Ok(Some(spell(self.alloc, &store.waiting, self.ids, secret)?)),
-            None => Ok(None),
-        }
-    }
-
     pub(crate) fn post_secret(
         &mut self,
         caller: &Caller,
@@ -78,7 +62,7 @@ impl Engine {
         moment: u64,
     ) -> Result<Asked, AskFault>
         requires time { moment < 253402300800 }
-        requires few { IfSome self.old.store (λ store. count_of store.waiting < 1152) }
+        requires few { count_of self.old.store.waiting < 1152 }
         ensures answer { IfOk result (λ a. a.answer ≡ posted_answer self.old.state body) }
         ensures step { IfOk result (λ a. Prepares a.step self.old.state (posted_state self.old.state caller.now body moment) self.new.room) }
         ensures stores { IfOk result (λ a. is_some a.step ≡ is_stored self.old.state body) }
@@ -113,7 +97,7 @@ impl Engine {
         };
         // A record has room for each name.
         prove!(secret.project.as_bytes().len() <= 64 && secret.creator.as_bytes().len() <= 64);
-        let waiting = self.spelled(&secret)?;
+        let waiting = spell(self.alloc, &self.store.waiting, self.ids, &secret)?;
         Ok(Asked {
             answer: Answer::Link {
                 status: 201,

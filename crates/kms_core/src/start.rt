@@ -1,5 +1,5 @@
 // An engine over a store.
-ghost use Rattle.std.specs.Prelude.{◌≡◌, IfOk, Some, None, false};
+ghost use Rattle.std.specs.Prelude.{◌≡◌, IfOk, None, false};
 ghost use Rattle.kms_host.specs.History.{Tells, WhereTold, Stops};
 ghost use Rattle.kms_host.specs.Store.{IsAttached};
 ghost use Rattle.kms_journal.specs.Device.{HasStoreCause};
@@ -32,7 +32,7 @@ fn open<H: Host>(alloc: Global, host: &mut H) -> Result<Journal, StartFault>
 impl Engine {
     // An engine of these rows, over this journal.
     fn of(alloc: Global, rows: Rows, journal: Journal) -> Engine
-        ensures { result ≡ record { state = rows.state; room = false; store = Some (record { journal = journal; waiting = None }) } }
+        ensures { result ≡ record { state = rows.state; room = false; store = record { journal = journal; waiting = None } } }
     {
         let Rows { tag, ids, secrets } = rows;
         Engine {
@@ -41,10 +41,10 @@ impl Engine {
             ids,
             secrets,
             room: false,
-            store: Some(Opened {
+            store: Opened {
                 journal,
                 waiting: None,
-            }),
+            },
         }
     }
 

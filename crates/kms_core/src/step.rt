@@ -8,8 +8,8 @@ use std::alloc::{AllocError, AllocFailed};
 pub struct Step {
     /// the secret that it adds
     pub secret: SecretRow,
-    // where the engine has a store, the steps that wait there and this one, spelled
-    pub(crate) waiting: Option<Waiting>,
+    // the steps that wait to be settled and this one, spelled
+    pub(crate) waiting: Waiting,
 }
 
 /// An answer, and the step that has to be taken over before it is given.

@@ -1,6 +1,6 @@
 // What no clause says: that the calls succeed over a host in memory, what each stop leaves, started again, and the bytes of
 // a store with one secret.
-ghost use Rattle.std.specs.Prelude.{IfOk, IfSome, ◌<◌};
+ghost use Rattle.std.specs.Prelude.{IfOk, ◌<◌};
 ghost use Rattle.kms_host.specs.History.{WhereTold};
 ghost use Rattle.kms_host.specs.Store.{IsAttached};
 ghost use Rattle.kms_journal.specs.Position.{IsPlaced};
@@ -119,7 +119,7 @@ fn post(alloc: Global) -> Option<Op> {
 fn starts<H: Host>(alloc: Global, host: &mut H) -> Result<Engine, StartFault>
     requires { WhereTold (H.history host.old) IsAttached }
     ensures idle { IfOk result IsIdle }
-    ensures placed { IfOk result (λ e. IfSome e.store (λ store. WhereTold (H.history host.new) (λ h. (s : Standing) × IsPlaced store.journal h s))) }
+    ensures placed { IfOk result (λ e. WhereTold (H.history host.new) (λ h. (s : Standing) × IsPlaced e.store.journal h s)) }
 {
     Engine::start(alloc, host)
 }
@@ -127,8 +127,8 @@ fn starts<H: Host>(alloc: Global, host: &mut H) -> Result<Engine, StartFault>
 // The answer to an operation, whose step is accepted.
 fn answers<H: Host>(engine: &mut Engine, host: &mut H, op: Op) -> Option<Answer>
     requires idle { IsIdle engine.old }
-    requires placed { IfSome engine.old.store (λ store. WhereTold (H.history host.old) (λ h. (s : Standing) × IsPlaced store.journal h s)) }
-    ensures placed { IfSome engine.new.store (λ store. WhereTold (H.history host.new) (λ h. (s : Standing) × IsPlaced store.journal h s)) }
+    requires placed { WhereTold (H.history host.old) (λ h. (s : Standing) × IsPlaced engine.old.store.journal h s) }
+    ensures placed { WhereTold (H.history host.new) (λ h. (s : Standing) × IsPlaced engine.new.store.journal h s) }
 {
     let caller = caller()?;
     match engine.ask(host, &caller, op, MOMENT) {
@@ -144,7 +144,7 @@ fn answers<H: Host>(engine: &mut Engine, host: &mut H, op: Op) -> Option<Answer>
 
 // Settles what was accepted.
 fn settles<H: Host>(engine: &mut Engine, host: &mut H) -> Result<(), StoreFault>
-    requires placed { IfSome engine.old.store (λ store. WhereTold (H.history host.old) (λ h. (s : Standing) × IsPlaced store.journal h s)) }
+    requires placed { WhereTold (H.history host.old) (λ h. (s : Standing) × IsPlaced engine.old.store.journal h s) }
 {
     engine.settle(host)
 }

@@ -2,7 +2,7 @@
 ghost use Rattle.std.specs.Prelude.{◌≡◌, ◌<◌, ◌≤◌, ◌+◌, ◌*◌, ◌^◌, ◌++◌, length, IfOk, OnOk};
 ghost use Rattle.kms_record.specs.Fields.{u32_bytes};
 ghost use Rattle.kms_record.specs.Grammar.{IsStep, IsStepInRange, step_bytes};
-ghost use Rattle.kms_journal.specs.Commit.{IsFramed, frame};
+ghost use Rattle.kms_journal.specs.Commit.{frame};
 ghost use Rattle.kms_core.specs.Waiting.{count_of, steps_of};
 
 use kms_record::{Step, encode_step};

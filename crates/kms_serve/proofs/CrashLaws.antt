@@ -97,13 +97,12 @@ same_files was now same =
 
 pub settled_same : (engine : Held) (n : ℕ) (was now : History) → Same was now → IsSettled engine n was → IsSettled engine n now
 settled_same engine n was now same s =
-    let o = s.3 in
+    let o = s.opened in
     let p = o.placed in
-    let here = same_reads was now same o.standing.file in (
-      s.0,
-      s.1,
-      s.2,
-      record {
+    let here = same_reads was now same o.standing.file in
+    record {
+      idle = s.idle;
+      opened = record {
         standing = o.standing;
         placed = record {
           attached = record { done = same.attached ∙ p.attached.done };
@@ -116,12 +115,12 @@ settled_same engine n was now same s =
         kept = o.kept;
         counted = o.counted;
         ahead = o.ahead;
-      },
-    )
+      };
+    }
 
 -- what a store stands for that is settled
 pub settled_stands : (engine : Held) (n : ℕ) (h : History) → IsSettled engine n h → Stands (files h) engine.state n
-settled_stands engine n h s = let o = s.3 in record { standing = o.standing; current = o.placed.current; kept = o.kept; counted = o.counted }
+settled_stands engine n h s = let o = s.opened in record { standing = o.standing; current = o.placed.current; kept = o.kept; counted = o.counted }
 
 pub stands_by : (two others : List ℕ × List ℕ) (state : State) (n : ℕ) → standing_of two ≡ standing_of others → Stands others state n → Stands two state n
 stands_by two others state n same s = record { standing = s.standing; current = same ∙ s.current; kept = s.kept; counted = s.counted }

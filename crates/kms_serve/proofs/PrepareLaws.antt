@@ -1,6 +1,6 @@
 -- A message is answered, and its steps are settled.
 use Rattle.std.proofs.Common.{◌≡◌, ℕ, ◌+◌, List, [], ◌∷◌, ◌++◌, Bool, true, false, Option, Some, None, Result, Ok, Err, refl, sym, ap, subst, ◌∙◌, arith, length, length-append}
-use Rattle.std.specs.Prelude.{IfSome, IsTrue, OnOk, is_err, is_some}
+use Rattle.std.specs.Prelude.{IsTrue, OnOk, is_err, is_some}
 use Rattle.std.proofs.lemmas.Bool.{false≢true}
 use Rattle.std.proofs.lemmas.List.{nil_from_length}
 use Rattle.kms_host.specs.History.{History, Tells, WhereTold, then_call}
@@ -13,13 +13,13 @@ use Rattle.kms_host.proofs.Moments.{tells_then, tells_with, since_told, known_wi
 use Rattle.kms_journal.specs.Device.{IsQuietStore}
 use Rattle.kms_host.specs.Store.{others}
 use Rattle.kms_journal.specs.Fault.{Fails}
-use Rattle.kms_journal.specs.Position.{IsPlaced}
+use Rattle.kms_journal.specs.Position.{Position, IsPlaced}
 use Rattle.kms_journal.specs.Standing.{Standing}
 use Rattle.kms_world.specs.State.{State}
 use Rattle.kms_core.specs.Settling.{IsOpened, IsSettledOrAll, Settles}
 use Rattle.kms_core.specs.Steps.{Held, IsIdle, IsSettled}
-use Rattle.kms_core.specs.Waiting.{Spelled, Keeping, IsAhead, count_of, with_waiting}
-use Rattle.kms_core.proofs.StandsLaws.{one_state, some_is}
+use Rattle.kms_core.specs.Waiting.{Spelled, Keeping, IsAhead, count_of}
+use Rattle.kms_core.proofs.StandsLaws.{one_state}
 use Rattle.kms_host.specs.Disk.{files}
 use Rattle.kms_http.specs.Reply.{fault_reply_of}
 use Rattle.kms_http.specs.Stream.{Served}
@@ -35,8 +35,8 @@ use Rattle.kms_serve.proofs.StoreCallLaws.{only_files, failed_since, same_by_fil
 
 -- what settling promises, as its contract says it
 abbrev pub SettleClause : {T E : Type 0} → (then after : Held) → Result T E → (was now : History) → Type 0
-SettleClause then after result was now = (store : Keeping) (settled : State) (steps : ℕ) → then.store ≡ Some store → IsOpened store was settled steps then.state
-    → (new : Keeping) × (after.store ≡ Some new) × Settles new result settled steps then.state (count_of store.waiting) was now
+SettleClause then after result was now = (settled : State) (steps : ℕ) → IsOpened then.store was settled steps then.state
+    → Settles after.store result settled steps then.state (count_of then.store.waiting) was now
 
 -- the calls that settled
 pub record Calls (before after : Held) (steps more : ℕ) (failed : Bool) (mid now : History) : Type 0 where
@@ -46,9 +46,6 @@ pub record Calls (before after : Held) (steps more : ℕ) (failed : Bool) (mid n
   pub idle : more ≡ 0 → on_files ≡ []
   pub fails : store_failed on_files ≡ failed
   pub settled : Settled before after steps more failed mid on_files
-
-idle_none : (engine : Held) (store : Keeping) → engine.store ≡ Some store → IsIdle engine → store.waiting ≡ None
-idle_none engine store is idle = subst (λ (s : Option Keeping). IfSome s (λ k. k.waiting ≡ None)) is idle
 
 -- no step waits where their number is 0
 waiting_none : (w : Option Spelled) (s t : State) → count_of w ≡ 0 → IsAhead w s t → w ≡ None
@@ -61,31 +58,39 @@ no_calls h more same =
     nil_from_length more (omega (arith, long, length-append more h.calls))
 
 module _ (before then after : Held) (steps more : ℕ) (mid now : History) (s : IsSettled before steps mid) (waits : Waits before then more) (same : after.state ≡ then.state) where
-  w : (waiting : Option Spelled) × (then.store ≡ Some (with_waiting waiting s.0)) × (count_of waiting ≡ more) × IsAhead waiting before.state then.state
-  w = subst (λ (o : Option Keeping). IfSome o (λ store. (waiting : Option Spelled) × (then.store ≡ Some (with_waiting waiting store)) × (count_of waiting ≡ more) × IsAhead waiting before.state then.state)) s.1 waits
-
-  opened : IsOpened (with_waiting w.0 s.0) mid before.state steps then.state
-  opened = let o = s.3 in record { standing = o.standing; placed = o.placed; kept = o.kept; counted = o.counted; ahead = w.3 }
+  opened : IsOpened then.store mid before.state steps then.state
+  opened =
+      let o = s.opened in
+      record { standing = o.standing; placed = subst (λ (p : Position). IsPlaced p mid o.standing) (sym waits.journal) o.placed; kept = o.kept; counted = o.counted; ahead = waits.ahead }
 
   idle_then : more ≡ 0 → IsIdle then
-  idle_then none =
-      let nothing : w.0 ≡ None = waiting_none w.0 before.state then.state (w.2 ∙ none) w.3 in
-      subst (λ (o : Option Keeping). IfSome o (λ k. k.waiting ≡ None)) (sym w.1) nothing
+  idle_then none = waiting_none then.store.waiting before.state then.state (waits.count ∙ none) waits.ahead
 
-  moments : (on_files : List Call) → AtEach (λ x. IsSettledOrAll before.state steps then.state (count_of w.0) mid (then_calls mid x)) on_files
-      → AtEach (λ x. IsSettledOrAll before.state steps after.state more mid (then_calls mid x)) on_files
+  abbrev Moment : (state : State) → (many : ℕ) → List Call → Type 0
+  Moment state many x = IsSettledOrAll before.state steps state many mid (then_calls mid x)
+
+  moments : (on_files : List Call) → AtEach (Moment then.state (count_of then.store.waiting)) on_files → AtEach (Moment after.state more) on_files
   moments on_files each =
-      at_map (λ x. IsSettledOrAll before.state steps then.state (count_of w.0) mid (then_calls mid x)) (λ x. IsSettledOrAll before.state steps after.state more mid (then_calls mid x)) on_files
-      (λ x h. subst (λ (k : ℕ). IsSettledOrAll before.state steps after.state k mid (then_calls mid x)) w.2
-      (subst (λ (q : State). IsSettledOrAll before.state steps q (count_of w.0) mid (then_calls mid x)) (sym same) h))
+      at_map (Moment then.state (count_of then.store.waiting)) (Moment after.state more) on_files
+      (λ x h. subst (λ (k : ℕ). Moment after.state k x) waits.count (subst (λ (q : State). Moment q (count_of then.store.waiting) x) (sym same) h))
       each
+
+  settled_now : IsIdle after → (on_files : List Call) → now ≡ then_calls mid on_files → IsOpened after.store now then.state (steps + count_of then.store.waiting) then.state
+      → IsSettled after (steps + more) (then_calls mid on_files)
+  settled_now idle on_files extends o =
+      record {
+        idle = idle;
+        opened =
+            subst (λ (q : State). IsOpened after.store (then_calls mid on_files) q (steps + more) q) (sym same)
+            (subst (λ (n : ℕ). IsOpened after.store (then_calls mid on_files) then.state (steps + n) then.state) waits.count (subst (λ (h : History). IsOpened after.store h then.state (steps + count_of then.store.waiting) then.state) extends o));
+      }
 
   pub calls_of : {T E : Type 0} (result : Result T E) → SettleClause then after result mid now → Fails (is_err result) mid now → OnOk result (IsIdle after) → (IsIdle then → now ≡ mid)
       → Calls before after steps more (is_err result) mid now
   calls_of (Ok x) clause fails idle uncalled =
-      let k = clause (with_waiting w.0 s.0) before.state steps w.1 opened in
-      let t = k.2.throughout in
-      let only = only_files mid t.more (ap (λ (h : History). others h) (sym t.extends) ∙ (at_last (IsSettledOrAll before.state steps then.state (count_of w.0) mid) mid now t).others) in
+      let k = clause before.state steps opened in
+      let t = k.throughout in
+      let only = only_files mid t.more (ap (λ (h : History). others h) (sym t.extends) ∙ (at_last (IsSettledOrAll before.state steps then.state (count_of then.store.waiting) mid) mid now t).others) in
       record {
         on_files = t.more;
         extends = t.extends;
@@ -94,20 +99,14 @@ module _ (before then after : Held) (steps more : ℕ) (mid now : History) (s : 
         fails = failed_since mid t.more false (subst (Fails false mid) t.extends fails);
         settled = record {
           each = moments t.more t.each;
-          done = λ well. (
-            k.0,
-            k.1,
-            idle_none after k.0 k.1 idle,
-            subst (λ (q : State). IsOpened k.0 (then_calls mid t.more) q (steps + more) q) (sym same)
-                (subst (λ (n : ℕ). IsOpened k.0 (then_calls mid t.more) then.state (steps + n) then.state) w.2 (subst (λ (h : History). IsOpened k.0 h then.state (steps + count_of w.0) then.state) t.extends k.2.done)),
-          );
-          quiet = λ well quiet. subst IsQuietStore t.extends (k.2.quiet quiet);
+          done = λ well. settled_now idle t.more t.extends k.done;
+          quiet = λ well quiet. subst IsQuietStore t.extends (k.quiet quiet);
         };
       }
   calls_of (Err e) clause fails idle uncalled =
-      let k = clause (with_waiting w.0 s.0) before.state steps w.1 opened in
-      let t = k.2.throughout in
-      let only = only_files mid t.more (ap (λ (h : History). others h) (sym t.extends) ∙ (at_last (IsSettledOrAll before.state steps then.state (count_of w.0) mid) mid now t).others) in
+      let k = clause before.state steps opened in
+      let t = k.throughout in
+      let only = only_files mid t.more (ap (λ (h : History). others h) (sym t.extends) ∙ (at_last (IsSettledOrAll before.state steps then.state (count_of then.store.waiting) mid) mid now t).others) in
       record {
         on_files = t.more;
         extends = t.extends;
@@ -193,10 +192,11 @@ ready_settling before after time more was now k =
 
 -- what waits, told of an engine of the same state and store
 pub waits_by : (a b after : Held) (m n : ℕ) → b.store ≡ a.store → b.state ≡ a.state → m ≡ n → Waits b after m → Waits a after n
-waits_by a b after m n store state steps w =
-    subst (λ (o : Option Keeping). IfSome o (λ k. (waiting : Option Spelled) × (after.store ≡ Some (with_waiting waiting k)) × (count_of waiting ≡ n) × IsAhead waiting a.state after.state)) store
-    (subst (λ (q : State). IfSome b.store (λ k. (waiting : Option Spelled) × (after.store ≡ Some (with_waiting waiting k)) × (count_of waiting ≡ n) × IsAhead waiting q after.state)) state
-    (subst (λ (x : ℕ). IfSome b.store (λ k. (waiting : Option Spelled) × (after.store ≡ Some (with_waiting waiting k)) × (count_of waiting ≡ x) × IsAhead waiting b.state after.state)) steps w))
+waits_by a b after m n store state steps w = record {
+  journal = w.journal ∙ ap (λ (k : Keeping). k.journal) store;
+  count = w.count ∙ steps;
+  ahead = subst (λ (q : State). IsAhead after.store.waiting q after.state) state w.ahead;
+}
 
 -- What calls on lines leave as it is.
 
@@ -222,18 +222,12 @@ ready_gave engine was gives k only = record {
 }
 
 -- Where the steps that wait are written, the journal stands at its place.
-placed_at : {d : Option History} (before then : Held) (steps : ℕ) → WhereTold d (CanServe before) → Waits before then steps → (o : Option Keeping) → then.store ≡ o
-    → IfSome o (λ store. IsTrue (is_some store.waiting) → WhereTold d (λ h. (s : Standing) × IsPlaced store.journal h s))
-placed_at before then steps ready waits None is = tt
-placed_at before then steps ready waits (Some store) is = λ some. record {
-  told = λ now told.
-      let s = (ready.told now told).settled in
-      let w = subst (λ (o : Option Keeping). IfSome o (λ k. (waiting : Option Spelled) × (then.store ≡ Some (with_waiting waiting k)) × (count_of waiting ≡ steps) × IsAhead waiting before.state then.state)) s.1 waits in
-      let same : with_waiting w.0 s.0 ≡ store = some_is (with_waiting w.0 s.0) store (sym w.1 ∙ is) in
-      (s.3.standing, subst (λ (k : Keeping). IsPlaced k.journal now s.3.standing) same s.3.placed);
-}
-
 pub placed : {a d : Option History} (before then : Held) (time : ℕ) → WhereTold a (CanServe before) → Tells a d (λ was now. now ≡ then_call was (Told time)) → (steps : ℕ) × Waits before then steps
-    → IfSome then.store (λ store. IsTrue (is_some store.waiting) → WhereTold d (λ h. (s : Standing) × IsPlaced store.journal h s))
-placed before then time ready told waits =
-    placed_at before then waits.0 (known_with_told (CanServe before) ready told (λ was now k is. ready_told before time was now k is)) waits.1 then.store refl
+    → IsTrue (is_some then.store.waiting) → WhereTold d (λ h. (s : Standing) × IsPlaced then.store.journal h s)
+placed before then time ready told waits some =
+    let later = known_with_told (CanServe before) ready told (λ was now k is. ready_told before time was now k is) in
+    record {
+      told = λ now there.
+          let o = (later.told now there).settled.opened in
+          (o.standing, subst (λ (p : Position). IsPlaced p now o.standing) (sym waits.1.journal) o.placed);
+    }

@@ -1,5 +1,5 @@
 -- What preparing a reply and giving bytes did.
-use Rattle.std.specs.Prelude.{◌≡◌, ◌⊎◌, ℕ, ◌+◌, ◌<◌, List, [], ◌∷◌, ◌++◌, length, Bool, true, false, Option, Some, IfSome, Result, OnOk, OnErr}
+use Rattle.std.specs.Prelude.{◌≡◌, ◌⊎◌, ℕ, ◌+◌, ◌<◌, List, [], ◌∷◌, ◌++◌, length, Bool, true, false, Result, OnOk, OnErr}
 use Rattle.kms_host.specs.History.{History, then_call}
 use Rattle.kms_host.specs.Moment.{AtEach, then_calls}
 use Rattle.kms_host.specs.Line.{sent, failed_on}
@@ -8,7 +8,7 @@ use Rattle.kms_host.specs.declared.call.Call.TheVariants.{Text, Attached, Took, 
 use Rattle.kms_journal.specs.Device.{IsQuietStore}
 use Rattle.kms_core.specs.Settling.{IsSettledOrAll}
 use Rattle.kms_core.specs.Steps.{Held, IsSettled}
-use Rattle.kms_core.specs.Waiting.{Spelled, IsAhead, count_of, with_waiting}
+use Rattle.kms_core.specs.Waiting.{IsAhead, count_of}
 use Rattle.kms_model.specs.Run.{answer_at, state_at, stores_at, steps_if}
 use Rattle.kms_model.specs.declared.event.Mark.{Mark}
 use Rattle.kms_http.specs.Stream.{Served}
@@ -33,10 +33,11 @@ is_fault (Reply bytes) = false
 is_fault OutOfMemory = false
 is_fault StoreFault = true
 
--- Over a store so many steps wait, and lead from the state before to the one after.
-abbrev pub Waits : (before after : Held) → (steps : ℕ) → Type 0
-Waits before after steps = IfSome before.store (λ store. (waiting : Option Spelled) × (after.store ≡ Some (with_waiting waiting store))
-    × (count_of waiting ≡ steps) × IsAhead waiting before.state after.state)
+-- So many steps wait, and lead from the state before to the one after.
+pub record Waits (before after : Held) (steps : ℕ) : Type 0 where
+  pub journal : after.store.journal ≡ before.store.journal
+  pub count : count_of after.store.waiting ≡ steps
+  pub ahead : IsAhead after.store.waiting before.state after.state
 
 -- how many steps an event makes
 abbrev pub steps_at : Held → LineEvent → Mark → ℕ

@@ -1,5 +1,4 @@
 // Giving bytes on a line.
-ghost use Rattle.std.specs.Prelude.{◌≡◌};
 ghost use Rattle.kms_host.specs.History.{WhereTold, Stops};
 ghost use Rattle.kms_host.specs.Line.{IsOpen};
 ghost use Rattle.kms_host.specs.Faults.{HasCause};

@@ -1,5 +1,5 @@
 // Serving a line, in turns.
-ghost use Rattle.std.specs.Prelude.{◌≡◌, ◌≢◌, ◌+◌, ◌*◌, ◌<◌, ◌≤◌, ◌||◌, ◌==◌, ℕ, List, Option, Bool, true, length, IfOk};
+ghost use Rattle.std.specs.Prelude.{◌≡◌, ◌≢◌, ◌+◌, ◌*◌, ◌<◌, ◌≤◌, ◌||◌, ◌==◌, ℕ, List, Option, true, length, IfOk};
 ghost use Rattle.kms_host.specs.History.{History, WhereTold, Stops};
 ghost use Rattle.kms_host.specs.Faults.{NeverFalls};
 ghost use Rattle.kms_host.specs.Line.{IsOpen};
@@ -9,7 +9,7 @@ ghost use Rattle.kms_http.specs.Stream.Front.{Bad, Part};
 ghost use Rattle.kms_serve.specs.Events.{most};
 ghost use Rattle.kms_core.specs.Steps.{IsIdle};
 ghost use Rattle.kms_serve.specs.Owed.{GivesFault, owed_bytes, is_fault};
-ghost use Rattle.kms_serve.specs.Turns.{Good, HasEnded, Left, IsTaken, IsBounded, IsServedEnd, GoesOn, HasCauses, CanServe, serving_of, fed};
+ghost use Rattle.kms_serve.specs.Turns.{Good, HasEnded, Left, IsTaken, IsBounded, IsServedEnd, GoesOn, HasCauses, CanServe, serving_of};
 ghost use Rattle.kms_serve.specs.declared.serving.Serving.{Serving as Session};
 
 use crate::give::give_all;

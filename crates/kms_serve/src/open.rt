@@ -1,5 +1,5 @@
 // Opening the store that is served.
-ghost use Rattle.std.specs.Prelude.{◌≡◌, ◌≢◌, IfOk, IsErrOf, false};
+ghost use Rattle.std.specs.Prelude.{◌≡◌, IfOk, IsErrOf, false};
 ghost use Rattle.kms_host.specs.Faults.{NeverFalls, Rose};
 ghost use Rattle.kms_host.specs.History.{WhereTold, Stops};
 ghost use Rattle.kms_host.specs.Line.{IsOpen};

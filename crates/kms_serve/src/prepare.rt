@@ -1,5 +1,5 @@
 // Preparing the reply to a message.
-ghost use Rattle.std.specs.Prelude.{◌≡◌, ◌+◌, ◌<◌, ◌==◌, ◌||◌, min, ℕ, true, false, is_some, IfOk, IfSome, OnOk, OnErr};
+ghost use Rattle.std.specs.Prelude.{◌≡◌, ◌<◌, min, ℕ, true, false, is_some, IfOk, IfSome, OnOk, OnErr};
 ghost use Rattle.kms_host.specs.Faults.{NeverFalls, Rose};
 ghost use Rattle.kms_host.specs.History.{WhereTold, Stops};
 ghost use Rattle.kms_host.specs.Line.{IsOpen};
@@ -126,8 +126,9 @@ fn reply<H: Host>(
     }
 }
 
-/// Prepares the reply to what was read as a message: its time is told, it is asked, printed, accepted and settled. It changes nothing where that is out of memory. The fault of the store is owed in the place of
-/// the reply where a call of the store failed.
+/// Prepares the reply to what was read as a message: its time is told, it is asked, printed, accepted and settled. It
+/// changes nothing where that is out of memory. The fault of the store is owed in the place of the reply where a call of
+/// the store failed.
 pub fn prepare<H: Host>(
     alloc: Global,
     endpoint: &str,
