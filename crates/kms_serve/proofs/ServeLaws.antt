@@ -1,15 +1,17 @@
 -- A run that serves a store carries the theorem.
-use Rattle.std.proofs.Common.{◌≡◌, ℕ, ◌+◌, List, [], Option, Some, None, Result, Err, Ok, refl, sym, subst, ◌∙◌, arith}
+use Rattle.std.proofs.Common.{◌≡◌, ℕ, ◌+◌, List, [], ◌∷◌, ◌++◌, Option, Some, None, Result, Err, Ok, refl, sym, ap, subst, ◌∙◌, arith, append_assoc}
 use Rattle.kms_host.specs.Disk.{files}
 use Rattle.kms_host.specs.History.{History, WhereTold}
 use Rattle.kms_host.specs.Moment.{Since}
+use Rattle.kms_host.specs.declared.call.Call.{Call}
+use Rattle.kms_host.specs.declared.call.Call.TheVariants.{Attached}
 use Rattle.kms_host.proofs.Moments.{since_since, since_weaker, since_nothing}
 use Rattle.kms_core.specs.Stands.{Stands}
 use Rattle.kms_core.specs.Steps.{Held, IsSettled}
 use Rattle.kms_core.proofs.StandsLaws.{one_state, some_is}
 use Rattle.kms_serve.specs.RunStart.{run_start, FromStore}
 use Rattle.kms_serve.specs.Init.{IsInitDone, IsInitStatus}
-use Rattle.kms_serve.specs.Opening.{Opens, IsRefusalStatus}
+use Rattle.kms_serve.specs.Opening.{BeginsWith, IsOpening, Opens, IsRefusalStatus}
 use Rattle.kms_serve.specs.Owing.{GoodAt}
 use Rattle.kms_serve.specs.Theorem.{Answers, Carries, IsPipeStatus, IsUnfaulted}
 use Rattle.kms_serve.specs.Turns.{Good, HasEnded, CanServe, IsServedEnd, serving_of}
@@ -20,7 +22,7 @@ use Rattle.kms_serve.proofs.CrashLaws.{settled_stands}
 use Rattle.kms_serve.proofs.EndLaws.{serves}
 use Rattle.kms_serve.proofs.EventLaws.{after-first}
 use Rattle.kms_serve.proofs.GiveLaws.{on_line-nil}
-use Rattle.kms_serve.proofs.ToldLaws.{since_fact}
+use Rattle.kms_serve.proofs.ToldLaws.{since_both}
 use Rattle.kms_serve.proofs.OpeningLaws.{answered_as_before, before_all, good_opened, ended_unopened}
 
 -- an engine that can serve begins well, from any moment
@@ -47,6 +49,15 @@ good_from endpoint store engine was can first steps stands =
     plus_none : (n : ℕ) → n ≡ n + 0
     plus_none n = omega arith
 
+-- the store stood for the engine's state, and was attached first
+record Stood (store : List ℕ) (engine : Held) (was : History) (calls : List Call) : Type 0 where
+  steps : ℕ
+  stands : Stands (files was) engine.state steps
+  attached : BeginsWith store calls
+
+begins_with : (store : List ℕ) (was : History) (calls later : List Call) → IsOpening store was calls → BeginsWith store (later ++ calls)
+begins_with store was calls later o = (o.done, later ++ o.on_files, ap (λ (l : List Call). later ++ l) o.made ∙ sym (append_assoc later o.on_files (Attached store o.done ∷ [])))
+
 pub carried : {a d c : Option History} (endpoint store : List ℕ) (engine : Held) (s : Status) → Since a d (λ was calls. Opens store (Ok engine) was calls) → WhereTold d (CanServe engine)
     → ((store : List ℕ) (start : Option History) → Good endpoint store start d (serving_of engine) → HasEnded endpoint store start c s)
     → Since a c (λ was calls. Carries endpoint store s was calls)
@@ -54,17 +65,19 @@ carried {a} {d} {c} endpoint store engine s opens ready ended =
     let good = since_weaker (λ was calls. FromStore store was (λ b. GoodAt endpoint b (serving_of engine) calls)) opens (λ was calls o. good_opened endpoint store engine was calls o) in
     let whole = ended store a good in
     let part = ended store d (since_nothing (λ was calls. FromStore store was (λ b. GoodAt endpoint b (serving_of engine) calls)) ready (λ was can. good_from endpoint store engine was can)) in
-    let stood = since_since (λ was calls. (n : ℕ) × Stands (files was) engine.state n) opens part (λ was x y o e. (o.start.0, o.start.1)) in
-    since_weaker (λ was calls. Carries endpoint store s was calls) (since_fact {Q = λ was. (n : ℕ) × Stands (files was) engine.state n} whole stood)
+    let stood = since_since (Stood store engine) opens part (λ was x y o e. record { steps = o.start.0; stands = o.start.1; attached = begins_with store was x y o.opening }) in
+    since_weaker (λ was calls. Carries endpoint store s was calls) (since_both whole stood)
     (λ was calls k. record {
+      attached = k.1.attached;
       serves = λ first steps stands. serves endpoint (run_start store was first steps) s calls (k.0 first steps stands);
-      refuses = λ none. absurd (none engine.state k.1.0 k.1.1);
+      refuses = λ none. absurd (none engine.state k.1.steps k.1.stands);
     })
 
 pub refused : {a c : Option History} (endpoint store : List ℕ) (s : Status) → Since a c (λ was calls. Opens store (Err s) was calls) → Since a c (λ was calls. Carries endpoint store s was calls)
 refused endpoint store s opens =
     since_weaker (λ was calls. Carries endpoint store s was calls) opens
     (λ was calls u. record {
+      attached = begins_with store was calls [] u.opening;
       serves = λ first steps stands. serves endpoint (run_start store was first steps) s calls (ended_unopened endpoint store s was calls u first steps stands);
       refuses = λ none. u;
     })

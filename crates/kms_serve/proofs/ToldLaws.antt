@@ -1,8 +1,9 @@
 -- What is told of one call, or of one span of calls, by several clauses.
-use Rattle.std.proofs.Common.{◌≡◌, List, sym, ap, ◌∙◌, subst}
+use Rattle.std.proofs.Common.{◌≡◌, List, [], ◌∷◌, ◌++◌, length, refl, sym, ap, ◌∙◌, subst, arith, length-append}
 use Rattle.std.specs.Prelude.{Option}
 use Rattle.kms_host.specs.History.{History, Tells}
-use Rattle.kms_host.specs.Moment.{Since}
+use Rattle.kms_host.specs.Moment.{Since, then_calls}
+use Rattle.kms_host.proofs.Moments.{then_calls-calls}
 use Rattle.kms_host.specs.declared.call.Call.{Call}
 use Rattle.kms_core.proofs.StandsLaws.{some_is}
 
@@ -27,11 +28,26 @@ tells_idle first idle = record {
 pub uncalled : {X I P : Type 0} (tells : X → Option History) (new mid old : X) → (I → P × (new ≡ mid)) → mid ≡ old → I → tells new ≡ tells old
 uncalled tells new mid old idle same i = ap tells ((idle i).1) ∙ ap tells same
 
--- a fact of the begin, beside what is known of the span
-pub since_fact : {a c : Option History} {P : History → List Call → Type 0} {Q : History → Type 0} → Since a c P → Since a c (λ was calls. Q was) → Since a c (λ was calls. P was calls × Q was)
-since_fact {Q = Q} p q = record {
+same_front : (a b rest : List Call) → a ++ rest ≡ b ++ rest → a ≡ b
+same_front [] [] rest e = refl
+same_front [] (y ∷ b) rest e = absurd (omega (arith, ap length e, length-append b rest))
+same_front (x ∷ a) [] rest e = absurd (omega (arith, ap length e, length-append a rest))
+same_front (x ∷ a) (y ∷ b) rest e =
+    let first : x ≡ y = cc in
+    let others : a ++ rest ≡ b ++ rest = cc in
+    rw (first, same_front a b rest others) refl
+
+-- one history has one list of calls since another
+same_calls : (was : History) (a b : List Call) → then_calls was a ≡ then_calls was b → a ≡ b
+same_calls was a b e = same_front a b was.calls (sym (then_calls-calls was a) ∙ ap (λ (h : History). h.calls) e ∙ then_calls-calls was b)
+
+-- two clauses on one span
+pub since_both : {a c : Option History} {P Q : History → List Call → Type 0} → Since a c P → Since a c Q → Since a c (λ was calls. P was calls × Q was calls)
+since_both {Q = Q} p q = record {
   told = λ now is.
       let x = p.told now is in
       let y = q.told now is in
-      (x.0, x.1, x.2, x.3, (x.4, subst Q (some_is y.0 x.0 (sym y.2 ∙ x.2)) y.4));
+      let begun : y.0 ≡ x.0 = some_is y.0 x.0 (sym y.2 ∙ x.2) in
+      let made : y.1 ≡ x.1 = same_calls x.0 y.1 x.1 (ap (λ (h : History). then_calls h y.1) (sym begun) ∙ sym y.3 ∙ x.3) in
+      (x.0, x.1, x.2, x.3, (x.4, subst (λ (l : List Call). Q x.0 l) made (subst (λ (h : History). Q h y.1) begun y.4)));
 }

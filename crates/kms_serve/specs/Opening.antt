@@ -70,6 +70,10 @@ pub record IsOpening (store : List ℕ) (was : History) (calls : List Call) : Ty
   pub only : OnlyFiles on_files
   pub each : AtEach (λ x. IsAsBefore was (then_calls was x)) calls
 
+-- The first call attached the store of this name.
+abbrev pub BeginsWith : (store : List ℕ) → List Call → Type 0
+BeginsWith store calls = (done : Result (Unit {0}) NameFault) × (later : List Call) × (calls ≡ later ++ Attached store done ∷ [])
+
 -- No store was opened, for this reason.
 pub record IsUnopened (store : List ℕ) (s : Status) (was : History) (calls : List Call) : Type 0 where
   pub opening : IsOpening store was calls

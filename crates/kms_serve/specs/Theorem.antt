@@ -12,7 +12,7 @@ use Rattle.kms_serve.specs.RunStart.{RunStart, FromStore}
 use Rattle.kms_serve.specs.Ends.{AllGiven, IsEnd, EndsClean, EndsInside, EndsUnreadable, EndsFailed}
 use Rattle.kms_serve.specs.Events.{events}
 use Rattle.kms_serve.specs.Init.{Inits}
-use Rattle.kms_serve.specs.Opening.{IsUnopened}
+use Rattle.kms_serve.specs.Opening.{BeginsWith, IsUnopened}
 use Rattle.kms_serve.specs.StoreCalls.{store_failed}
 use Rattle.kms_serve.specs.Words.{Pipe}
 use Rattle.kms_serve.specs.declared.status.Status.{Status}
@@ -42,9 +42,10 @@ pub record Serves (endpoint : List ℕ) (b : RunStart) (s : Status) (calls : Lis
 abbrev pub StandForNone : List ℕ × List ℕ → Type 0
 StandForNone two = (first : State) (steps : ℕ) → Stands two first steps → ⊥
 
--- A run that serves a store: where it stands for a state the run begins with that. Where it stands for none it is refused, and
--- what a stop leaves stands for what the files did, if nothing was pending when the run began.
+-- A run that serves a store attaches it first. Where it stands for a state the run begins with that. Where it stands for none
+-- the run is refused, and what a stop leaves stands for what the files did, if nothing was pending when the run began.
 pub record Carries (endpoint store : List ℕ) (s : Status) (was : History) (calls : List Call) : Type 0 where
+  pub attached : BeginsWith store calls
   pub serves : FromStore store was (λ b. Serves endpoint b s calls)
   pub refuses : StandForNone (files was) → IsUnopened store s was calls
 
