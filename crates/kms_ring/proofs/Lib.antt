@@ -1,0 +1,3 @@
+pub mod KeyFileLaws
+pub mod RingLaws
+pub mod UniqueLaws

@@ -1,0 +1,4 @@
+pub mod KeyFile
+pub mod Keys
+pub mod Ring
+pub mod RingFields
