@@ -1,6 +1,7 @@
 #!/bin/sh
-# Runs the built program over real files and streams, as .ci/run does behind the gate: a store is made once, a secret is
-# read by another process, also where the one that created it was killed behind its reply, and a store is open once.
+# Runs the built program over real files and streams, as .ci/run does behind the gate: a store is made once, two have
+# tags of their own, a secret is read by another process, also where the one that created it was killed behind its reply,
+# and a store is open once.
 set -eu
 here=$(cd "$(dirname "$0")/.." && pwd)
 program=$here/crates/barbicand/out/barbicand
@@ -41,6 +42,8 @@ secret_of() {
 pipe 3 </dev/null
 ends 0 init --store s
 ends 3 init --store s
+ends 0 init --store t
+! cmp -s s.0 t.0 || fail "two stores have one tag"
 pipe 0 </dev/null
 [ ! -s reply ] || fail "an empty stream has a reply"
 
