@@ -1,11 +1,12 @@
 -- A key file is read line by line.
 use denote.Ref.{Bor}
-use Rattle.std.proofs.Common.{◌≡◌, ℕ, suc, ◌+◌, ◌-◌, ◌<◌, ◌≤◌, Bool, true, false, cond, List, [], ◌∷◌, ◌++◌, length, take, drop, get_or, map, Option, Some, None, refl, sym, ap, subst, ◌∙◌, arith, append-nil, length-append}
+use Rattle.std.proofs.Common.{◌≡◌, ℕ, ◌+◌, ◌-◌, ◌<◌, ◌≤◌, Bool, true, false, cond, List, [], ◌∷◌, ◌++◌, length, take, drop, get_or, map, Option, Some, None, refl, sym, ap, subst, ◌∙◌, arith, append-nil, length-append}
 use Rattle.std.specs.Prelude.{nat_lt, position}
 use Rattle.std.specs.List.{AllByRecursion, IsDistinct, slice_split, position_or_len, before_first, after_first}
 use Rattle.std.specs.Str.{bytes_eq}
 use Rattle.std.proofs.lemmas.Bool.{ltb-true, ltb-false}
-use Rattle.std.proofs.lemmas.List.{take_all, length-drop, length-take-le}
+use Rattle.std.proofs.lemmas.List.{take_all, length-drop, length-take-le, map-append, append_assoc}
+use Rattle.std.proofs.lemmas.List.Elements.{recursion_from_All}
 use Rattle.std.proofs.lemmas.List.Splits.{slice_split_none, slice_split_first}
 use Rattle.std.proofs.lemmas.List.Sums.{split_at_first, fails_before_first, passes_at_first}
 use Rattle.std.proofs.lemmas.Slice.Eq.{bytes_eq-Decides}
@@ -39,10 +40,6 @@ unfolding IsDistinct
 distinct_push [] key distinct new = (tt, tt)
 distinct_push (x ∷ keys) key distinct new = (all_push (λ y. bytes_eq x y ≡ false) keys key distinct.0 new.0, distinct_push keys key distinct.1 new.1)
 
-fails_all : {A : Type 0} (p : A → Bool) (xs : List A) → ((k : ℕ) (d : A) → k < length xs → p (get_or xs k d) ≡ false) → AllByRecursion (λ x. p x ≡ false) xs
-fails_all {A} p [] h = tt
-fails_all {A} p (x ∷ xs) h = (h 0 x (omega arith), fails_all p xs (λ k d lt. h (suc k) d (omega (arith, lt))))
-
 by_position : {A : Type 0} (p : A → Bool) (xs : List A) (b : Bool) → nat_lt (position_or_len p xs) (length xs) ≡ b → position p xs ≡ cond b (Some (position_or_len p xs)) None
 by_position {A} p xs b e = ap (λ (c : Bool). cond c (Some (position_or_len p xs)) None) e
 
@@ -54,7 +51,7 @@ new_key key keys none = by (nat_lt (position_or_len test keys) (length keys)) re
 
     by : (b : Bool) → nat_lt (position_or_len test keys) (length keys) ≡ b → AllByRecursion (λ other. bytes_eq other key ≡ false) keys
     by true e = let some : None ≡ Some (position_or_len test keys) = none ∙ by_position test keys true e in absurd (cc)
-    by false e = fails_all test keys (λ k d lt. fails_before_first test keys k d (omega (arith, lt, ltb-false _ _ e)))
+    by false e = recursion_from_All (λ other. test other ≡ false) keys (λ k d lt. fails_before_first test keys k d (omega (arith, lt, ltb-false _ _ e)))
 
 pub old_key : (key : List ℕ) (keys : List (List ℕ)) (place : ℕ) → Some place ≡ position (λ other. bytes_eq other key) keys → StandsAt key (place + 1) keys
 old_key key keys place some = by (nat_lt (position_or_len test keys) (length keys)) refl
@@ -98,15 +95,12 @@ pub record Reads (text : List ℕ) (keys : List (List ℕ)) (rest : List ℕ) : 
   pub good : AreKeys keys
   pub lines : lines_of text ≡ map base64url keys ++ slice_split is_line_feed rest
 
-map_push : (keys : List (List ℕ)) (key : List ℕ) (others : List (List ℕ)) → map base64url keys ++ base64url key ∷ others ≡ map base64url (keys ++ key ∷ []) ++ others
-map_push [] key others = refl
-map_push (x ∷ keys) key others = ap (λ (l : List (List ℕ)). base64url x ∷ l) (map_push keys key others)
-
 with_key : (text : List ℕ) (keys after : List (List ℕ)) (line : List ℕ) (others : List (List ℕ)) → (a : AddsKey keys line after) → lines_of text ≡ map base64url keys ++ line ∷ others → lines_of text ≡ map base64url after ++ others
 with_key text keys after line others a lines =
     lines
     ∙ ap (λ (l : List ℕ). map base64url keys ++ l ∷ others) a.2
-    ∙ map_push keys a.1 others
+    ∙ sym (append_assoc (map base64url keys) (base64url a.1 ∷ []) others)
+    ∙ ap (λ (l : List (List ℕ)). l ++ others) (sym (map-append base64url keys (a.1 ∷ [])))
     ∙ ap (λ (ks : List (List ℕ)). map base64url ks ++ others) (sym a.3)
 
 pub reads_on : (text : List ℕ) (keys after : List (List ℕ)) (rest line : List ℕ) (behind : Bor (List ℕ)) → Reads text keys rest → StandsFirst rest line (Some behind) → AddsKey keys line after → Reads text after behind.now

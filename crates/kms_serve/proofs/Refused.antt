@@ -1,4 +1,5 @@
 -- Runs that the theorem refuses: from each wrong list of calls, the newest first, and the theorem follows anything.
+use Rattle.std.proofs.lemmas.List.{same_from_push}
 use Rattle.std.proofs.Common.{◌≡◌, ℕ, ◌+◌, ◌<◌, List, [], ◌∷◌, ◌++◌, length, take, true, false, Option, Some, None, Result, refl, ap, subst, arith, length-append, inl, inr}
 use Rattle.kms_host.specs.declared.call.Call.{Call}
 use Rattle.kms_host.specs.Disk.{files, IsImage}
@@ -25,13 +26,6 @@ use Rattle.kms_serve.specs.declared.status.Status.TheVariants as status
 at_the_end : (endpoint : List ℕ) (b : RunStart) (s : Status) (calls : List Call) → (c : Serves endpoint b s calls) → Answered endpoint b c.marks calls
 at_the_end endpoint b s calls c =
     subst (Answered endpoint b c.marks) (by_moment-last calls (length calls) refl) (c.each (length calls) (omega arith))
-
--- lists that end otherwise
-last_is_not : (xs ys : List Call) (x y : Call) → (x ≡ y → ⊥) → xs ++ x ∷ [] ≡ ys ++ y ∷ [] → ⊥
-last_is_not [] [] x y other e = let same : x ≡ y = cc in other same
-last_is_not [] (z ∷ ys) x y other e = omega (arith, ap length e, length-append ys (y ∷ []))
-last_is_not (z ∷ xs) [] x y other e = omega (arith, ap length e, length-append xs (x ∷ []))
-last_is_not (w ∷ xs) (z ∷ ys) x y other e = let rest : xs ++ x ∷ [] ≡ ys ++ y ∷ [] = cc in last_is_not xs ys x y other rest
 
 -- it gives bytes on any line before a request came
 pub gives_at_once : (endpoint : List ℕ) (b : RunStart) (s : Status) (line : ℕ) (piece : List ℕ) (went : Option ℕ) → Serves endpoint b s (Gave line piece went ∷ []) → ⊥
@@ -103,7 +97,7 @@ fault_without_a_call endpoint b c = c.end.0
 pub takes_without_a_store : (endpoint store : List ℕ) (s : Status) (was : History) (line room : ℕ) (bytes : Option (List ℕ)) (later : List Call)
     → Carries endpoint store s was (later ++ Took line room bytes ∷ []) → ⊥
 takes_without_a_store endpoint store s was line room bytes later c =
-    let a = c.attached in last_is_not later a.1 (Took line room bytes) (Attached store a.0) (λ e. cc) a.2
+    let first = (same_from_push later c.attached.1 (Took line room bytes) (Attached store c.attached.0) c.attached.2).1 in cc
 
 -- it names another store
 pub names_another_store : (endpoint : List ℕ) (b : RunStart) (s : Status) (name : List ℕ) (done : Result (Unit {0}) NameFault) → (name ≡ b.store → ⊥) → Serves endpoint b s (Attached name done ∷ []) → ⊥

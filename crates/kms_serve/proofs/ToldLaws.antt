@@ -1,5 +1,6 @@
 -- What is told of one call, or of one span of calls, by several clauses.
-use Rattle.std.proofs.Common.{◌≡◌, List, [], ◌∷◌, ◌++◌, length, refl, sym, ap, ◌∙◌, subst, arith, length-append}
+use Rattle.std.proofs.Common.{◌≡◌, List, sym, ap, ◌∙◌, subst}
+use Rattle.std.proofs.lemmas.List.{append_cancel_right}
 use Rattle.std.specs.Prelude.{Option}
 use Rattle.kms_host.specs.History.{History, Tells}
 use Rattle.kms_host.specs.Moment.{Since, then_calls}
@@ -28,18 +29,9 @@ tells_idle first idle = record {
 pub uncalled : {X I P : Type 0} (tells : X → Option History) (new mid old : X) → (I → P × (new ≡ mid)) → mid ≡ old → I → tells new ≡ tells old
 uncalled tells new mid old idle same i = ap tells ((idle i).1) ∙ ap tells same
 
-same_front : (a b rest : List Call) → a ++ rest ≡ b ++ rest → a ≡ b
-same_front [] [] rest e = refl
-same_front [] (y ∷ b) rest e = absurd (omega (arith, ap length e, length-append b rest))
-same_front (x ∷ a) [] rest e = absurd (omega (arith, ap length e, length-append a rest))
-same_front (x ∷ a) (y ∷ b) rest e =
-    let first : x ≡ y = cc in
-    let others : a ++ rest ≡ b ++ rest = cc in
-    rw (first, same_front a b rest others) refl
-
 -- one history has one list of calls since another
 same_calls : (was : History) (a b : List Call) → then_calls was a ≡ then_calls was b → a ≡ b
-same_calls was a b e = same_front a b was.calls (sym (then_calls-calls was a) ∙ ap (λ (h : History). h.calls) e ∙ then_calls-calls was b)
+same_calls was a b e = append_cancel_right a b was.calls (sym (then_calls-calls was a) ∙ ap (λ (h : History). h.calls) e ∙ then_calls-calls was b)
 
 -- two clauses on one span
 pub since_both : {a c : Option History} {P Q : History → List Call → Type 0} → Since a c P → Since a c Q → Since a c (λ was calls. P was calls × Q was calls)

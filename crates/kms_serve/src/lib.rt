@@ -1,4 +1,5 @@
-//! The top call: creates a store, or opens one, reads messages from a line, asks the engine, settles, and gives the printed replies.
+//! The top call: creates a store, or opens one, reads messages from a line, asks the engine, settles, and gives the
+//! printed replies.
 #![tactic(auto)]
 
 mod give;

@@ -206,7 +206,7 @@ fn new_room(alloc: Global) -> Result<Vec<u8>, NoMemory>
     zeros(alloc, ROOM)
 }
 
-/// Serves line 0 from its first byte to its end, over an engine that has a store.
+/// Serves line 0 from its first byte to its end.
 pub fn serve_line<H: Host>(alloc: Global, endpoint: &str, engine: Engine, host: &mut H) -> Status
     requires idle { IsIdle engine }
     requires ready { WhereTold (H.history host.old) (CanServe engine) }
