@@ -1,10 +1,8 @@
 // Containers and their consumers.
-ghost use Rattle.std.specs.Prelude.{◌≡◌, ◌++◌, [], ◌∷◌, OnOk, OnErr};
+ghost use Rattle.std.specs.Prelude.{◌≡◌};
 ghost use Rattle.kms_world.specs.ContainerKind.{word_of};
 
-use crate::{Id, Name, NoMemory, Text};
-use std::alloc::Global;
-use std::marker::Model;
+use crate::{Id, ListOf, Name, Text};
 
 /// What a container holds.
 #[derive(Clone, Copy, Debug, PartialEq, Eq)]
@@ -27,47 +25,8 @@ impl ContainerKind {
     }
 }
 
-/// The secrets that a container names, each by its id and maybe under a name. Contracts see the list.
-#[derive(Drop, Debug)]
-pub struct Members {
-    items: Vec<(Option<Text>, Id)>,
-}
-
-impl Model for Members {
-    ghost use Rattle.std.specs.Prelude.{List, ℕ, Option};
-    ghost use Rattle.kms_world.specs.declared.id.Id.{Id};
-
-    ghost Value = { List (Option (List ℕ) × Id) };
-
-    ghost view = { λ m. m.items.items };
-}
-
-impl Members {
-    /// No members; takes no memory.
-    pub fn new(alloc: Global) -> Members
-        ensures { result ≡ [] }
-    {
-        Members {
-            items: Vec::new(alloc),
-        }
-    }
-
-    /// Puts a member behind the others. After `NoMemory` they are as before.
-    pub fn push(&mut self, member: (Option<Text>, Id)) -> Result<(), NoMemory>
-        ensures ok { OnOk result (self.new ≡ self.old ++ member ∷ []) }
-        ensures err { OnErr result (self.new ≡ self.old) }
-    {
-        self.items.push(member)?;
-        Ok(())
-    }
-
-    /// The members in their order.
-    pub fn as_slice(&self) -> &[(Option<Text>, Id)]
-        ensures { result.now ≡ self.now }
-    {
-        &self.items
-    }
-}
+/// The secrets that a container names, each by its id and maybe under a name.
+pub type Members = ListOf<(Option<Text>, Id)>;
 
 /// A container of secrets. Times are whole seconds since 1970; the name has at most 255 bytes.
 #[derive(Drop, Debug)]

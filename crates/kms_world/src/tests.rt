@@ -1,5 +1,7 @@
 // What no clause says: that calls succeed, and the layout of ids against an example from outside.
-use crate::{Bytes, Id, Members, Name, Names, NoMemory, Pairs, SecretKind, Text, Texts, id_of};
+use crate::{
+    Bytes, Id, Members, Name, Names, NoMemory, Pairs, SecretKind, Text, Texts, copied, id_of,
+};
 use std::alloc::Global;
 use std::rt::HostRuntime;
 
@@ -29,6 +31,7 @@ fn made(alloc: Global) -> Result<(), NoMemory> {
     members.push((None, Id(1)))?;
     let mut texts = Texts::new(alloc);
     texts.push(Text::of(alloc, "u1")?)?;
+    let _copy = copied(&Some(Text::of(alloc, "a")?))?;
     let mut names = Names::new(alloc);
     if let Some(name) = Name::read(b"u1") {
         names.push(name)?;
