@@ -1,8 +1,10 @@
 // Containers and their consumers.
-ghost use Rattle.std.specs.Prelude.{◌≡◌};
+ghost use Rattle.std.specs.Prelude.{◌≡◌, IfOk};
 ghost use Rattle.kms_world.specs.ContainerKind.{word_of};
 
-use crate::{Id, ListOf, Name, Text};
+use crate::text::copied;
+use crate::{Id, ListOf, Name, NoMemory, Text};
+use std::alloc::Global;
 
 /// What a container holds.
 #[derive(Clone, Copy, Debug, PartialEq, Eq)]
@@ -49,4 +51,47 @@ pub struct ConsumerRow {
     pub name: Text,
     pub url: Text,
     pub created: u64,
+}
+
+impl ConsumerRow {
+    /// A copy of the consumer.
+    pub fn copied(&self) -> Result<ConsumerRow, NoMemory>
+        ensures { IfOk result (λ copy. copy ≡ self.now) }
+    {
+        Ok(ConsumerRow {
+            container: self.container,
+            name: self.name.clone()?,
+            url: self.url.clone()?,
+            created: self.created,
+        })
+    }
+}
+
+fn members_copied(alloc: Global, members: &Members) -> Result<Members, NoMemory>
+    ensures { IfOk result (λ copy. copy ≡ members.now) }
+{
+    let mut copy = Members::new(alloc);
+    for member in members.as_slice() {
+        let name = copied(&member.0)?;
+        copy.push((name, member.1))?;
+    }
+    Ok(copy)
+}
+
+impl ContainerRow {
+    /// A copy of the container.
+    pub fn copied(&self, alloc: Global) -> Result<ContainerRow, NoMemory>
+        ensures { IfOk result (λ copy. copy ≡ self.now) }
+    {
+        Ok(ContainerRow {
+            id: self.id,
+            project: self.project,
+            creator: self.creator,
+            created: self.created,
+            updated: self.updated,
+            name: copied(&self.name)?,
+            kind: self.kind,
+            secrets: members_copied(alloc, &self.secrets)?,
+        })
+    }
 }
