@@ -19,10 +19,13 @@ json_reply status allow body = record { status = status; media = Some Json; allo
 abbrev pub refused_reply : Refusal → Reply
 refused_reply refusal = json_reply (status_of refusal) (allow_of refusal) (error_data refusal)
 
+abbrev pub empty_reply : ℕ → Reply
+empty_reply status = record { status = status; media = None; allow = None; body = [] }
+
 -- Links are under an endpoint. Answers of operations that aren't served yet have no form of their own here.
 unfoldable pub reply_of : List ℕ → Answer → Reply
 reply_of endpoint (Refused refusal) = refused_reply refusal
-reply_of endpoint (Empty status) = record { status = status; media = None; allow = None; body = [] }
+reply_of endpoint (Empty status) = empty_reply status
 reply_of endpoint (Link status link id) = json_reply status None (link_data endpoint link id)
 reply_of endpoint (Secret row) = json_reply 200 None (secret_data endpoint row)
 reply_of endpoint answer = refused_reply NoRoute

@@ -1,7 +1,7 @@
 // Answers as replies.
 ghost use Rattle.std.specs.Prelude.{◌≡◌, IfOk};
 ghost use Rattle.kms_world.specs.Times.{HasTimes};
-ghost use Rattle.kms_json.specs.Answer.{refused_reply, reply_of};
+ghost use Rattle.kms_json.specs.Answer.{empty_reply, refused_reply, reply_of};
 
 use crate::link::link_body;
 use crate::refused::{allow, error_body, status};
@@ -18,6 +18,17 @@ fn refused(alloc: Global, refusal: Refusal) -> Result<Reply, NoMemory>
         allow: allow(refusal),
         body: error_body(alloc, refusal)?,
     })
+}
+
+fn empty(alloc: Global, status: u16) -> Reply
+    ensures { result ≡ empty_reply status }
+{
+    Reply {
+        status,
+        media: None,
+        allow: None,
+        body: Bytes::new(alloc),
+    }
 }
 
 /// The reply that an answer is under an endpoint, with which links begin. Its body is JSON (RFC 8259) without white
@@ -40,12 +51,7 @@ pub fn answer(alloc: Global, answer: &Answer, endpoint: &str) -> Result<Reply, N
 {
     match answer {
         Answer::Refused(refusal) => refused(alloc, *refusal),
-        Answer::Empty(status) => Ok(Reply {
-            status: *status,
-            media: None,
-            allow: None,
-            body: Bytes::new(alloc),
-        }),
+        Answer::Empty(status) => Ok(empty(alloc, *status)),
         Answer::Link { status, link, id } => Ok(Reply {
             status: *status,
             media: Some(Media2::Json),
