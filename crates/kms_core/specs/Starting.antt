@@ -8,6 +8,7 @@ use Rattle.kms_journal.specs.Position.{Position, IsPlaced}
 use Rattle.kms_journal.specs.Recovery.{KeepsStanding}
 use Rattle.kms_journal.specs.Standing.{Standing, standing_of}
 use Rattle.kms_journal.specs.declared.fault.Place.TheVariants.{Body}
+use Rattle.kms_world.specs.State.{State}
 use Rattle.kms_core.specs.Stands.{Stands, IsDamagedAt}
 use Rattle.kms_core.specs.Steps.{Held, IsSettled}
 use Rattle.kms_core.specs.declared.start_fault.StartFault.{StartFault}
@@ -40,6 +41,15 @@ IsStart (Err fault) was now = IsRefusal fault was
 pub record Starts (result : Result Held StartFault) (was now : History) : Type 0 where
   pub throughout : Throughout (KeepsStanding was) was now
   pub answer : IsStart result was now
+
+-- What starting over a store that stands for this state can answer: an engine that has the state, or that a call of the store
+-- failed, or that it was out of memory.
+abbrev pub OpensTo : State → Result Held StartFault → Type 0
+OpensTo state (Ok engine) = engine.state ≡ state
+OpensTo state (Err NoStore) = ⊥
+OpensTo state (Err (Damaged place)) = ⊥
+OpensTo state (Err StoreFault) = Unit {0}
+OpensTo state (Err NoMemory) = Unit {0}
 
 -- the same of a journal alone
 abbrev pub IsJournal : Result Position StartFault → History → History → Type 0
