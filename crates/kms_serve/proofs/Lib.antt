@@ -1,3 +1,4 @@
+pub mod AcknowledgedLaws
 pub mod CrashLaws
 pub mod EndLaws
 pub mod EventLaws

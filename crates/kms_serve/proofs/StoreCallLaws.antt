@@ -10,7 +10,8 @@ use Rattle.kms_host.specs.declared.call.Call.TheVariants.{Text, Attached, Took, 
 use Rattle.kms_host.specs.declared.call.FileCall.{FileCall}
 use Rattle.kms_host.proofs.Moments.{then_calls-calls}
 use Rattle.kms_journal.specs.Fault.{Fails}
-use Rattle.kms_serve.specs.StoreCalls.{store_failed, OnlyFiles}
+use Rattle.kms_host.specs.Moment.{AtEach}
+use Rattle.kms_serve.specs.StoreCalls.{store_failed, IsUnfailedBefore, OnlyFiles}
 
 -- a meaning that says nothing of calls on files
 pub same_by_files : {A : Type 0} (F : List Call → A) → ((file : ℕ) (c : FileCall) (calls : List Call) → F (OnFile file c ∷ calls) ≡ F calls)
@@ -85,7 +86,7 @@ none_here : (b rest : Bool) (n : ℕ) → cond b (n + 1) n ≡ 0 → (n ≡ 0 �
 none_here true rest n e before = absurd (omega (arith, e))
 none_here false rest n e before = before e
 
-none_failed : (calls : List Call) → failed_store_calls calls ≡ 0 → store_failed calls ≡ false
+pub none_failed : (calls : List Call) → failed_store_calls calls ≡ 0 → store_failed calls ≡ false
 none_failed [] e = refl
 none_failed (c ∷ calls) e = none_here (store_call_failed c) (store_failed calls) (failed_store_calls calls) e (none_failed calls)
 
@@ -105,3 +106,29 @@ failed_since was calls true f =
 failed_since was calls false f =
     let all = ap failed_store_calls (then_calls-calls was calls) ∙ failed-append calls was.calls in
     none_failed calls (omega (arith, f, all))
+
+-- Calls of which only the newest may have failed.
+
+not_later : (a b : Bool) → (a || b) ≡ false → b ≡ false
+not_later true b e = cc
+not_later false b e = e
+
+pub unfailed_before : (calls : List Call) → store_failed calls ≡ false → IsUnfailedBefore calls
+unfailed_before [] e = refl
+unfailed_before (c ∷ calls) e = not_later (store_call_failed c) (store_failed calls) e
+
+pub both_unfailed : (late early : List Call) → store_failed late ≡ false → store_failed early ≡ false → store_failed (late ++ early) ≡ false
+both_unfailed late early first second = store_failed-append late early ∙ ap (λ (b : Bool). b || store_failed early) first ∙ second
+
+pub before_each : (late early : List Call) → IsUnfailedBefore late → store_failed early ≡ false → AtEach (λ z. IsUnfailedBefore (z ++ early)) late
+before_each [] early first second = unfailed_before early second
+before_each (c ∷ late) early first second = (both_unfailed late early first second, before_each late early (unfailed_before late first) second)
+
+pub before_more : (late early : List Call) → IsUnfailedBefore late → store_failed early ≡ false → IsUnfailedBefore (late ++ early)
+before_more [] early first second = unfailed_before early second
+before_more (c ∷ late) early first second = both_unfailed late early first second
+
+-- Where one of them failed that is the newest.
+pub failed_once : (was : History) (calls : List Call) (b : Bool) → Fails b was (then_calls was calls) → IsUnfailedBefore calls
+failed_once was calls false f = unfailed_before calls (failed_since was calls false f)
+failed_once was calls true f = ?

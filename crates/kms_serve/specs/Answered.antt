@@ -55,12 +55,13 @@ pub record IsNamed (b : RunStart) (name : List ℕ) (calls : List Call) : Type 0
   pub at_first : calls ≡ []
 
 -- A file is called while the store is opened, or when the newest request has a step; and when the replies to all requests but
--- the newest were given whole, and nothing more, and no call of the line failed.
+-- the newest were given whole, and nothing more, and no call of the line failed, nor one of the store.
 pub record IsBetween (endpoint : List ℕ) (b : RunStart) (marks : List Mark) (calls : List Call) : Type 0 where
   pub given : (line : ℕ) → sent line calls ≡ replies line endpoint b.first (before_newest (events calls)) marks
   pub needed : ((done : Result (Unit {0}) NameFault) × (apart_from_files calls ≡ Attached b.store done ∷ []))
       ⊎ (steps_by b.first (before_newest (events calls)) marks < steps_by b.first (events calls) marks)
   pub sound : failed_on 0 calls ≡ false
+  pub unfailed : store_failed calls ≡ false
 
 -- A time is told when all replies were given whole, and no call of the store failed.
 pub record IsNewRequest (endpoint : List ℕ) (b : RunStart) (marks : List Mark) (calls : List Call) : Type 0 where

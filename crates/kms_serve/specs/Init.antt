@@ -18,6 +18,7 @@ use Rattle.kms_journal.specs.Standing.{Standing, standing_of}
 use Rattle.kms_journal.specs.declared.fault.CreateFault.{CreateFault}
 use Rattle.kms_journal.specs.declared.fault.CreateFault.TheVariants as creation
 use Rattle.kms_core.specs.Stands.{Stands}
+use Rattle.kms_serve.specs.StoreCalls.{IsUnfailedBefore}
 use Rattle.kms_serve.specs.declared.status.Status.{Status}
 use Rattle.kms_serve.specs.declared.status.Status.TheVariants as status
 
@@ -52,11 +53,6 @@ naming store done = Attached store done ∷ []
 abbrev pub drawing : List ℕ → Option (List ℕ) → List Call
 drawing store bytes = Drew Tag bytes ∷ Attached store (Ok tt) ∷ []
 
--- There were no others: nothing was taken, given or shut, and no time told.
-abbrev pub IsAlone : List ℕ → List Call → Type 0
-IsAlone store apart =
-    (apart ≡ []) ⊎ ((done : Result (Unit {0}) NameFault) × (apart ≡ naming store done)) ⊎ ((bytes : Option (List ℕ)) × (apart ≡ drawing store bytes))
-
 -- the files are as before, and what is pending on them
 abbrev pub AreAsBefore : History → List Call → Type 0
 AreAsBefore was calls = (f : ℕ) → disk f (then_calls was calls) ≡ disk f was
@@ -67,16 +63,26 @@ IsNoStore was = standing_of (files was) ≡ None
 abbrev pub IsStore : History → Type 0
 IsStore was = (s : Standing) × (standing_of (files was) ≡ Some s)
 
--- After some of the calls. Each crash image stands for what the files did before; or there was no store, the eight bytes of
--- a tag were drawn by then, and the image is a fresh store of this tag. A store that was there is left alone.
+-- There were no others: nothing was taken, given or shut, and no time told. A tag is drawn only where there is no store.
+abbrev pub IsAlone : List ℕ → History → List Call → Type 0
+IsAlone store was apart =
+    (apart ≡ [])
+    ⊎ ((done : Result (Unit {0}) NameFault) × (apart ≡ naming store done))
+    ⊎ (IsNoStore was × ((bytes : Option (List ℕ)) × (apart ≡ drawing store bytes)))
+
+-- After some of the calls, of which only the newest may be one of the store that failed. Each crash image stands for what the
+-- files did before; or there was no store, the eight bytes of a tag were drawn by then, and the image is a fresh store of
+-- this tag. A store that was there is left alone.
 pub record IsUnderWay (store : List ℕ) (was : History) (calls : List Call) : Type 0 where
-  pub alone : IsAlone store (apart_from_files calls)
+  pub alone : IsAlone store was (apart_from_files calls)
+  pub unfailed : IsUnfailedBefore calls
   pub images : IsQuietStore was → (image : List ℕ × List ℕ) → IsImage (then_calls was calls) image
       → (standing_of image ≡ standing_of (files was))
       ⊎ (IsNoStore was × ((bytes : List ℕ) × (length bytes ≡ 8) × (apart_from_files calls ≡ drawing store (Some bytes)) × IsFreshStore image (tag_of bytes)))
   pub kept : IsStore was → AreAsBefore was calls
 
--- There was no store. Eight bytes were drawn, and the files as they read now are a fresh store of their tag.
+-- There was no store. Eight bytes were drawn, and the files as they read now are a fresh store of their tag. So is each crash
+-- image, if nothing was pending when the run began.
 pub record IsCreated (store : List ℕ) (was : History) (calls : List Call) : Type 0 where
   pub none : IsNoStore was
   pub bytes : List ℕ
@@ -84,6 +90,7 @@ pub record IsCreated (store : List ℕ) (was : History) (calls : List Call) : Ty
   pub drawn : apart_from_files calls ≡ drawing store (Some bytes)
   pub fresh : IsFreshStore (files (then_calls was calls)) (tag_of bytes)
   pub quiet : IsQuietStore was → IsQuietStore (then_calls was calls)
+  pub images : IsQuietStore was → (image : List ℕ × List ℕ) → IsImage (then_calls was calls) image → IsFreshStore image (tag_of bytes)
 
 -- There was no store, drawing its tag failed, and the files are as before.
 pub record IsUndrawn (store : List ℕ) (was : History) (calls : List Call) : Type 0 where

@@ -1,5 +1,5 @@
 -- What the calls of a run say of the store, beside what its files hold.
-use Rattle.std.specs.Prelude.{List, [], ◌∷◌, Bool, false, ◌||◌}
+use Rattle.std.specs.Prelude.{◌≡◌, List, [], ◌∷◌, drop, Bool, false, ◌||◌}
 use Rattle.kms_host.specs.Store.{store_call_failed}
 use Rattle.kms_host.specs.declared.call.Call.{Call}
 use Rattle.kms_host.specs.declared.call.Call.TheVariants.{Text, Attached, Took, Gave, Shut, OnFile, Told, Drew}
@@ -8,6 +8,10 @@ use Rattle.kms_host.specs.declared.call.Call.TheVariants.{Text, Attached, Took, 
 abbrev pub store_failed : List Call → Bool
 store_failed [] = false
 store_failed (c ∷ calls) = store_call_failed c || store_failed calls
+
+-- No call of the store failed before the newest call.
+abbrev pub IsUnfailedBefore : List Call → Type 0
+IsUnfailedBefore calls = store_failed (drop 1 calls) ≡ false
 
 -- nothing but calls on files
 abbrev pub OnlyFiles : List Call → Type 0
