@@ -8,7 +8,7 @@ use Rattle.kms_host.specs.Line.{sent}
 use Rattle.kms_host.specs.Memory.{AddsTo}
 use Rattle.kms_host.specs.Recording.{Recording, Notes, NotesOn, Agrees, history_of}
 use Rattle.kms_host.specs.declared.call.Call.{Call}
-use Rattle.kms_host.specs.declared.call.Call.TheVariants.{Text, Attached, Took, Gave, Shut, OnFile, Told, Drew}
+use Rattle.kms_host.specs.declared.call.Call.TheVariants.{Text, Listened, Came, Attached, Took, Gave, Shut, OnFile, Told, Drew}
 use Rattle.kms_host.specs.declared.call.FileCall.{FileCall}
 use Rattle.kms_host.specs.declared.call.FileCall.TheVariants.{Measured, Read, Wrote, CutTo}
 use Rattle.kms_host.specs.declared.call.NameFault.{NameFault}
