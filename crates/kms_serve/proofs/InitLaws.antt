@@ -7,7 +7,7 @@ use Rattle.kms_host.specs.History.{History, then_call, Tells}
 use Rattle.kms_host.specs.Moment.{AtEach, Throughout, Since, then_calls}
 use Rattle.kms_host.specs.Store.{apart_from_files, others, failed_store_calls, IsAttached}
 use Rattle.kms_host.specs.declared.call.Call.{Call}
-use Rattle.kms_host.specs.declared.call.Call.TheVariants.{Text, Attached, Took, Gave, Shut, OnFile, Told, Drew}
+use Rattle.kms_host.specs.declared.call.Call.TheVariants.{Text, Listened, Came, Attached, Took, Gave, Shut, OnFile, Told, Drew}
 use Rattle.kms_host.specs.declared.call.Failed.{Failed}
 use Rattle.kms_host.specs.declared.call.NameFault.{NameFault}
 use Rattle.kms_host.specs.declared.call.NameFault.TheVariants as names
@@ -37,6 +37,8 @@ fresh_stands image tag low is = (record { standing = fresh tag; current = is; ke
 apart-append : (x y : List Call) → apart_from_files (x ++ y) ≡ apart_from_files x ++ apart_from_files y
 apart-append [] y = refl
 apart-append (Text name room bytes ∷ x) y = ap (λ (l : List Call). Text name room bytes ∷ l) (apart-append x y)
+apart-append (Listened address done ∷ x) y = ap (λ (l : List Call). Listened address done ∷ l) (apart-append x y)
+apart-append (Came line ∷ x) y = ap (λ (l : List Call). Came line ∷ l) (apart-append x y)
 apart-append (Attached name done ∷ x) y = ap (λ (l : List Call). Attached name done ∷ l) (apart-append x y)
 apart-append (Took l room bytes ∷ x) y = ap (λ (z : List Call). Took l room bytes ∷ z) (apart-append x y)
 apart-append (Gave l piece went ∷ x) y = ap (λ (z : List Call). Gave l piece went ∷ z) (apart-append x y)

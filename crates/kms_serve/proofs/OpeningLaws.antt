@@ -6,7 +6,7 @@ use Rattle.kms_host.specs.History.{History, Tells, WhereTold, then_call}
 use Rattle.kms_host.specs.Line.{taken, sent, times, at_end, failed_on, is_shut, IsOpen, IsStill}
 use Rattle.kms_host.specs.Moment.{AtEach, Since, Throughout, then_calls}
 use Rattle.kms_host.specs.declared.call.Call.{Call}
-use Rattle.kms_host.specs.declared.call.Call.TheVariants.{Text, Attached, Took, Gave, Shut, OnFile, Told, Drew}
+use Rattle.kms_host.specs.declared.call.Call.TheVariants.{Text, Listened, Came, Attached, Took, Gave, Shut, OnFile, Told, Drew}
 use Rattle.kms_host.specs.declared.call.FileCall.{FileCall}
 use Rattle.kms_host.specs.declared.call.NameFault.{NameFault}
 use Rattle.kms_host.proofs.Moments.{at_more, at_map, since_told, then_calls-append, then_calls-calls, tells_then, tells_with, known_after_told}
@@ -204,6 +204,8 @@ module _ (endpoint : List ℕ) (b : RunStart) (stands : Stands (files b.was) b.f
     answered_as_before [] refl refl (λ line. refl) tt tt each.1,
   )
   opening_each (Text name room bytes ∷ on_files) done only each = absurd only
+  opening_each (Listened address heard ∷ on_files) done only each = absurd only
+  opening_each (Came next ∷ on_files) done only each = absurd only
   opening_each (Attached name d ∷ on_files) done only each = absurd only
   opening_each (Took line room bytes ∷ on_files) done only each = absurd only
   opening_each (Gave line piece went ∷ on_files) done only each = absurd only

@@ -8,7 +8,7 @@ use Rattle.kms_host.specs.Moment.{AtEach, then_calls}
 use Rattle.kms_host.specs.Line.{taken, sent, times, at_end, failed_on, is_empty, is_shut, IsStill, OnlyGives}
 use Rattle.kms_host.specs.Store.{syncs}
 use Rattle.kms_host.specs.declared.call.Call.{Call}
-use Rattle.kms_host.specs.declared.call.Call.TheVariants.{Text, Attached, Took, Gave, Shut, OnFile, Told, Drew}
+use Rattle.kms_host.specs.declared.call.Call.TheVariants.{Text, Listened, Came, Attached, Took, Gave, Shut, OnFile, Told, Drew}
 use Rattle.kms_host.proofs.LineLaws.{sent-append, taken-gives, times-gives, at_end-gives, is_shut-gives, failed_on-append}
 use Rattle.kms_host.proofs.Moments.{at_now, at_map, then_calls-append}
 use Rattle.kms_journal.specs.Device.{IsQuietStore}
@@ -70,6 +70,8 @@ turn_marks endpoint b marks more (Shut l ∷ calls) within h = record {
   unfailed = h.unfailed;
 }
 turn_marks endpoint b marks more (Text name room bytes ∷ calls) within h = absurd h
+turn_marks endpoint b marks more (Listened address done ∷ calls) within h = absurd h
+turn_marks endpoint b marks more (Came line ∷ calls) within h = absurd h
 turn_marks endpoint b marks more (Attached name done ∷ calls) within h = record { of_words = h.of_words; at_first = h.at_first }
 turn_marks endpoint b marks more (OnFile file c ∷ calls) within h =
     let fewer : length (before_newest (events calls)) ≤ length marks = omega (arith, within, length-before_newest (events calls)) in
@@ -246,6 +248,8 @@ module _ (endpoint : List ℕ) (b : RunStart) (s : Serving) (then : Held) (stand
     at_map (Answered endpoint b o.marks) (Answered endpoint b marks) x (answered_marks endpoint b o.marks (mark ∷ [])) o.each,
   )
   settling_each (Text name room bytes ∷ on_files) only need settling = absurd only
+  settling_each (Listened address done ∷ on_files) only need settling = absurd only
+  settling_each (Came next ∷ on_files) only need settling = absurd only
   settling_each (Attached name done ∷ on_files) only need settling = absurd only
   settling_each (Took line room bytes ∷ on_files) only need settling = absurd only
   settling_each (Gave line piece went ∷ on_files) only need settling = absurd only
@@ -321,6 +325,8 @@ module _ (endpoint : List ℕ) (b : RunStart) (s : Serving) (then : Held) (stand
 syncs_gives : (line : ℕ) (b : RunStart) (gives calls : List Call) → OnlyGives line gives → syncs (history b (gives ++ calls)).calls ≡ syncs (history b calls).calls
 syncs_gives line b [] calls only = refl
 syncs_gives line b (Text name room bytes ∷ gives) calls only = absurd only
+syncs_gives line b (Listened address done ∷ gives) calls only = absurd only
+syncs_gives line b (Came next ∷ gives) calls only = absurd only
 syncs_gives line b (Attached name done ∷ gives) calls only = absurd only
 syncs_gives line b (Took l room bytes ∷ gives) calls only = absurd only
 syncs_gives line b (Gave l piece went ∷ gives) calls only = syncs_gives line b gives calls only.1
@@ -391,6 +397,8 @@ given_each endpoint b marks owed (Gave l piece went ∷ gives) calls each owes k
 )
 given_each endpoint b marks owed (Shut l ∷ gives) calls each owes keep sound only = absurd only
 given_each endpoint b marks owed (Text name room bytes ∷ gives) calls each owes keep sound only = absurd only
+given_each endpoint b marks owed (Listened address done ∷ gives) calls each owes keep sound only = absurd only
+given_each endpoint b marks owed (Came line ∷ gives) calls each owes keep sound only = absurd only
 given_each endpoint b marks owed (Attached name done ∷ gives) calls each owes keep sound only = absurd only
 given_each endpoint b marks owed (OnFile file c ∷ gives) calls each owes keep sound only = absurd only
 given_each endpoint b marks owed (Told t ∷ gives) calls each owes keep sound only = absurd only

@@ -6,7 +6,7 @@ use Rattle.kms_host.specs.Moment.{then_calls}
 use Rattle.kms_host.specs.Line.{OnlyGives}
 use Rattle.kms_host.specs.Store.{apart_from_files, store_call_failed, failed_store_calls, others}
 use Rattle.kms_host.specs.declared.call.Call.{Call}
-use Rattle.kms_host.specs.declared.call.Call.TheVariants.{Text, Attached, Took, Gave, Shut, OnFile, Told, Drew}
+use Rattle.kms_host.specs.declared.call.Call.TheVariants.{Text, Listened, Came, Attached, Took, Gave, Shut, OnFile, Told, Drew}
 use Rattle.kms_host.specs.declared.call.FileCall.{FileCall}
 use Rattle.kms_host.proofs.Moments.{then_calls-calls}
 use Rattle.kms_journal.specs.Fault.{Fails}
@@ -17,6 +17,8 @@ pub same_by_files : {A : Type 0} (F : List Call → A) → ((file : ℕ) (c : Fi
     → (on_files early : List Call) → OnlyFiles on_files → F (on_files ++ early) ≡ F early
 same_by_files F skips [] early only = refl
 same_by_files F skips (Text name room bytes ∷ on_files) early only = absurd only
+same_by_files F skips (Listened address done ∷ on_files) early only = absurd only
+same_by_files F skips (Came line ∷ on_files) early only = absurd only
 same_by_files F skips (Attached name done ∷ on_files) early only = absurd only
 same_by_files F skips (Took line room bytes ∷ on_files) early only = absurd only
 same_by_files F skips (Gave line piece went ∷ on_files) early only = absurd only
@@ -28,6 +30,8 @@ same_by_files F skips (Drew purpose bytes ∷ on_files) early only = absurd only
 apart_longer : (more early : List Call) → length (apart_from_files early) ≤ length (apart_from_files (more ++ early))
 apart_longer [] early = omega arith
 apart_longer (Text name room bytes ∷ more) early = omega (arith, apart_longer more early)
+apart_longer (Listened address done ∷ more) early = omega (arith, apart_longer more early)
+apart_longer (Came line ∷ more) early = omega (arith, apart_longer more early)
 apart_longer (Attached name done ∷ more) early = omega (arith, apart_longer more early)
 apart_longer (Took line room bytes ∷ more) early = omega (arith, apart_longer more early)
 apart_longer (Gave line piece went ∷ more) early = omega (arith, apart_longer more early)
@@ -39,6 +43,8 @@ apart_longer (Drew purpose bytes ∷ more) early = omega (arith, apart_longer mo
 none_apart : (more early : List Call) → length (apart_from_files (more ++ early)) ≤ length (apart_from_files early) → OnlyFiles more
 none_apart [] early le = tt
 none_apart (Text name room bytes ∷ more) early le = absurd (omega (arith, le, apart_longer more early))
+none_apart (Listened address done ∷ more) early le = absurd (omega (arith, le, apart_longer more early))
+none_apart (Came line ∷ more) early le = absurd (omega (arith, le, apart_longer more early))
 none_apart (Attached name done ∷ more) early le = absurd (omega (arith, le, apart_longer more early))
 none_apart (Took line room bytes ∷ more) early le = absurd (omega (arith, le, apart_longer more early))
 none_apart (Gave line piece went ∷ more) early le = absurd (omega (arith, le, apart_longer more early))
@@ -65,6 +71,8 @@ store_failed-append (c ∷ late) early =
 pub store_failed-gives : (line : ℕ) (gives early : List Call) → OnlyGives line gives → store_failed (gives ++ early) ≡ store_failed early
 store_failed-gives line [] early only = refl
 store_failed-gives line (Text name room bytes ∷ gives) early only = absurd only
+store_failed-gives line (Listened address done ∷ gives) early only = absurd only
+store_failed-gives line (Came next ∷ gives) early only = absurd only
 store_failed-gives line (Attached name done ∷ gives) early only = absurd only
 store_failed-gives line (Took l room bytes ∷ gives) early only = absurd only
 store_failed-gives line (Gave l piece went ∷ gives) early only = store_failed-gives line gives early only.1

@@ -3,7 +3,7 @@ use Rattle.std.specs.Prelude.{◌≡◌, ◌⊎◌, ℕ, ◌+◌, ◌*◌, ◌�
 use Rattle.kms_host.specs.Line.{taken, sent, times, at_end, failed_on, is_shut, IsStill}
 use Rattle.kms_host.specs.Store.{apart_from_files, syncs}
 use Rattle.kms_host.specs.declared.call.Call.{Call}
-use Rattle.kms_host.specs.declared.call.Call.TheVariants.{Text, Attached, Took, Gave, Shut, OnFile, Told, Drew}
+use Rattle.kms_host.specs.declared.call.Call.TheVariants.{Text, Listened, Came, Attached, Took, Gave, Shut, OnFile, Told, Drew}
 use Rattle.kms_host.specs.declared.call.NameFault.{NameFault}
 use Rattle.kms_model.specs.declared.event.Mark.{Mark}
 use Rattle.kms_http.specs.Stream.{front, after}
@@ -71,6 +71,8 @@ pub record IsNewRequest (endpoint : List ℕ) (b : RunStart) (marks : List Mark)
 abbrev pub InTurn : (endpoint : List ℕ) → RunStart → List Mark → List Call → Type 0
 InTurn endpoint b marks [] = Unit {0}
 InTurn endpoint b marks (Text name room bytes ∷ calls) = ⊥
+InTurn endpoint b marks (Listened address done ∷ calls) = ⊥
+InTurn endpoint b marks (Came line ∷ calls) = ⊥
 InTurn endpoint b marks (Attached name done ∷ calls) = IsNamed b name calls
 InTurn endpoint b marks (Took line room bytes ∷ calls) = IsReady endpoint b marks line room calls
 InTurn endpoint b marks (Gave line piece went ∷ calls) = IsNext endpoint b marks line piece calls

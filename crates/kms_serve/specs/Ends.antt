@@ -3,7 +3,7 @@ use Rattle.std.specs.Prelude.{◌≡◌, ◌⊎◌, ℕ, ◌+◌, ◌<◌, List,
 use Rattle.kms_host.specs.Disk.{files}
 use Rattle.kms_host.specs.Line.{taken, sent, at_end, failed_on}
 use Rattle.kms_host.specs.declared.call.Call.{Call}
-use Rattle.kms_host.specs.declared.call.Call.TheVariants.{Text, Attached, Took, Gave, Shut, OnFile, Told, Drew}
+use Rattle.kms_host.specs.declared.call.Call.TheVariants.{Text, Listened, Came, Attached, Took, Gave, Shut, OnFile, Told, Drew}
 use Rattle.kms_journal.specs.Device.{IsQuietStore}
 use Rattle.kms_core.specs.Stands.{Stands}
 use Rattle.kms_model.specs.declared.event.Mark.{Mark}
@@ -56,6 +56,8 @@ EndsClean calls =
 abbrev pub EndsFailed : ℕ → List Call → Type 0
 EndsFailed line [] = ⊥
 EndsFailed line (Text name room bytes ∷ calls) = ⊥
+EndsFailed line (Listened address done ∷ calls) = ⊥
+EndsFailed line (Came next ∷ calls) = ⊥
 EndsFailed line (Attached name done ∷ calls) = ⊥
 EndsFailed line (Took l room (Some bytes) ∷ calls) = ⊥
 EndsFailed line (Took l room None ∷ calls) = l ≡ line
@@ -80,6 +82,8 @@ IsUnfinished calls = (rest : List ℕ) × (after most (length (events calls)) (t
 abbrev pub EndsShut : List Call → Type 0
 EndsShut [] = ⊥
 EndsShut (Text name room bytes ∷ calls) = ⊥
+EndsShut (Listened address done ∷ calls) = ⊥
+EndsShut (Came line ∷ calls) = ⊥
 EndsShut (Attached name done ∷ calls) = ⊥
 EndsShut (Took l room bytes ∷ calls) = ⊥
 EndsShut (Gave l piece went ∷ calls) = ⊥

@@ -4,7 +4,7 @@ use Rattle.kms_host.specs.History.{History, then_call}
 use Rattle.kms_host.specs.Moment.{AtEach, then_calls}
 use Rattle.kms_host.specs.Line.{sent, failed_on}
 use Rattle.kms_host.specs.declared.call.Call.{Call}
-use Rattle.kms_host.specs.declared.call.Call.TheVariants.{Text, Attached, Took, Gave, Shut, OnFile, Told, Drew}
+use Rattle.kms_host.specs.declared.call.Call.TheVariants.{Text, Listened, Came, Attached, Took, Gave, Shut, OnFile, Told, Drew}
 use Rattle.kms_journal.specs.Device.{IsQuietStore}
 use Rattle.kms_core.specs.Settling.{IsSettledOrAll}
 use Rattle.kms_core.specs.Steps.{Held, IsSettled}
@@ -83,6 +83,8 @@ pub record IsLeft (line : ℕ) (bytes : List ℕ) (l : ℕ) (piece : List ℕ) (
 abbrev pub OnlyLeft : ℕ → List ℕ → List Call → Type 0
 OnlyLeft line bytes [] = Unit {0}
 OnlyLeft line bytes (Text name room text ∷ calls) = ⊥
+OnlyLeft line bytes (Listened address done ∷ calls) = ⊥
+OnlyLeft line bytes (Came next ∷ calls) = ⊥
 OnlyLeft line bytes (Attached name done ∷ calls) = ⊥
 OnlyLeft line bytes (Took l room taken ∷ calls) = ⊥
 OnlyLeft line bytes (Gave l piece went ∷ calls) = IsLeft line bytes l piece calls × OnlyLeft line bytes calls

@@ -2,7 +2,7 @@
 use Rattle.std.specs.Prelude.{List, [], ◌∷◌, Bool, false, ◌||◌}
 use Rattle.kms_host.specs.Store.{store_call_failed}
 use Rattle.kms_host.specs.declared.call.Call.{Call}
-use Rattle.kms_host.specs.declared.call.Call.TheVariants.{Text, Attached, Took, Gave, Shut, OnFile, Told, Drew}
+use Rattle.kms_host.specs.declared.call.Call.TheVariants.{Text, Listened, Came, Attached, Took, Gave, Shut, OnFile, Told, Drew}
 
 -- a call of the store failed
 abbrev pub store_failed : List Call → Bool
@@ -13,6 +13,8 @@ store_failed (c ∷ calls) = store_call_failed c || store_failed calls
 abbrev pub OnlyFiles : List Call → Type 0
 OnlyFiles [] = Unit {0}
 OnlyFiles (Text name room bytes ∷ calls) = ⊥
+OnlyFiles (Listened address done ∷ calls) = ⊥
+OnlyFiles (Came line ∷ calls) = ⊥
 OnlyFiles (Attached name done ∷ calls) = ⊥
 OnlyFiles (Took line room bytes ∷ calls) = ⊥
 OnlyFiles (Gave line piece went ∷ calls) = ⊥
