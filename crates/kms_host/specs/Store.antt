@@ -39,6 +39,21 @@ is_attached (OnFile file c ∷ calls) = is_attached calls
 is_attached (Told t ∷ calls) = is_attached calls
 is_attached (Drew purpose bytes ∷ calls) = is_attached calls
 
+-- no other store was attached than the one of this name
+abbrev pub OnlyAttached : List ℕ → List Call → Type 0
+OnlyAttached store [] = Unit {0}
+OnlyAttached store (Text name room bytes ∷ calls) = OnlyAttached store calls
+OnlyAttached store (Listened address done ∷ calls) = OnlyAttached store calls
+OnlyAttached store (Came line ∷ calls) = OnlyAttached store calls
+OnlyAttached store (Attached name (Ok done) ∷ calls) = (name ≡ store) × OnlyAttached store calls
+OnlyAttached store (Attached name (Err fault) ∷ calls) = OnlyAttached store calls
+OnlyAttached store (Took l room bytes ∷ calls) = OnlyAttached store calls
+OnlyAttached store (Gave l piece went ∷ calls) = OnlyAttached store calls
+OnlyAttached store (Shut l ∷ calls) = OnlyAttached store calls
+OnlyAttached store (OnFile file c ∷ calls) = OnlyAttached store calls
+OnlyAttached store (Told t ∷ calls) = OnlyAttached store calls
+OnlyAttached store (Drew purpose bytes ∷ calls) = OnlyAttached store calls
+
 pub record IsAttached (h : History) : Type 0 where
   pub done : is_attached h.calls ≡ true
 

@@ -102,6 +102,10 @@ one_left [] e = absurd (omega arith)
 one_left (x ∷ []) e = refl
 one_left (x ∷ y ∷ l) e = absurd (omega arith)
 
+-- nothing is pending on a file that is at rest
+pub rested : (file : ℕ) (h : History) (bytes : List ℕ) → disk file h ≡ at_rest bytes → IsQuiet file h
+rested file h bytes is = is ∙ ap at_rest (sym (ap (λ (d : Disk). d.reads) is))
+
 -- nothing is pending where this file is quiet and the other as it was
 pub still_quiet : (file : ℕ) (was now : History) → IsQuiet file now → ((g : ℕ) → file ≢ g → disk g now ≡ disk g was) → IsQuietStore was → IsQuietStore now
 still_quiet file was now here other quiet f low = elim (eqb_tells file f) [
