@@ -3,7 +3,7 @@ use Rattle.std.specs.Prelude.{◌≡◌, ℕ, Some, None, Result, Ok, Err, Bool,
 use Rattle.kms_host.specs.Disk.{files}
 use Rattle.kms_host.specs.History.{History}
 use Rattle.kms_host.specs.Moment.{Throughout}
-use Rattle.kms_journal.specs.Device.{IsQuietStore}
+use Rattle.kms_journal.specs.Device.{IsQuiet, IsQuietStore}
 use Rattle.kms_journal.specs.Position.{Position, IsPlaced}
 use Rattle.kms_journal.specs.Recovery.{KeepsStanding}
 use Rattle.kms_journal.specs.Standing.{Standing, standing_of}
@@ -30,11 +30,13 @@ IsRefusal (Damaged place) was = (s : Standing) × (at : ℕ) × (standing_of (fi
 IsRefusal StoreFault was = Unit {0}
 IsRefusal NoMemory was = Unit {0}
 
--- An engine has the state for which the files stood at first, with its journal at the store's end, and no step waits.
+-- An engine has the state for which the files stood at first, with its journal at the store's end, and no step waits. Nothing
+-- is pending on the current file, whatever was pending before.
 abbrev pub IsStart : Result Held StartFault → History → History → Type 0
 IsStart (Ok engine) was now = (steps : ℕ) × Stands (files was) engine.state steps
     × IsSettled engine steps now
     × (IsQuietStore was → IsQuietStore now)
+    × IsQuiet engine.store.journal.file now
 IsStart (Err fault) was now = IsRefusal fault was
 
 -- While it starts, each crash image stands for what the files did at first.
@@ -53,7 +55,7 @@ OpensTo state (Err NoMemory) = Unit {0}
 
 -- the same of a journal alone
 abbrev pub IsJournal : Result Position StartFault → History → History → Type 0
-IsJournal (Ok journal) was now = (s : Standing) × (standing_of (files was) ≡ Some s) × IsPlaced journal now s × (IsQuietStore was → IsQuietStore now)
+IsJournal (Ok journal) was now = (s : Standing) × (standing_of (files was) ≡ Some s) × IsPlaced journal now s × (IsQuietStore was → IsQuietStore now) × IsQuiet s.file now
 IsJournal (Err fault) was now = IsRefusal fault was
 
 pub record OpensJournal (result : Result Position StartFault) (was now : History) : Type 0 where
