@@ -16,7 +16,7 @@ use Rattle.kms_host.proofs.DiskLaws.{only_image}
 use Rattle.kms_host.proofs.Moments.{then_calls-append, then_calls-calls, since_told, since_since, since_weaker, since_call, at_map, at_both, at_more, at_now}
 use Rattle.kms_journal.specs.Answers.{Looks}
 use Rattle.kms_journal.specs.Create.{Creates, IsCreation, IsNoneOrFresh, fresh}
-use Rattle.kms_journal.specs.Device.{IsQuietStore, IsUntouched}
+use Rattle.kms_journal.specs.Device.{IsQuiet, IsQuietStore, IsUntouched}
 use Rattle.kms_journal.specs.Fault.{Fails, is_failed_creation}
 use Rattle.kms_journal.specs.Standing.{standing, standing_of, newer}
 use Rattle.kms_journal.specs.declared.fault.CreateFault.{CreateFault}
@@ -26,7 +26,7 @@ use Rattle.kms_core.proofs.StandsLaws.{fresh_kept, fresh_counted}
 use Rattle.kms_serve.proofs.CrashLaws.{quiet_image}
 use Rattle.kms_serve.proofs.StoreCallLaws.{failed-append, none_failed, failed_once, before_each}
 use Rattle.kms_serve.specs.StoreCalls.{store_failed, IsUnfailedBefore}
-use Rattle.kms_serve.proofs.ToldLaws.{tells_both}
+use Rattle.kms_host.proofs.ToldLaws.{tells_both}
 use Rattle.kms_serve.specs.Init.{tag_of, DrawsTag, naming_status, creation_status, IsFreshStore, naming, drawing, IsAlone, AreAsBefore, IsNoStore, IsUnderWay, IsInitEnd, Inits}
 use Rattle.kms_serve.specs.declared.status.Status.TheVariants as status
 
@@ -64,7 +64,7 @@ apart_more mid y x e = apart-append y x ∙ ap (λ (l : List Call). l ++ apart_f
 fault_between : (mid : History) (y x : List Call) → Fails true mid (then_calls mid y) → 0 < failed_store_calls (y ++ x)
 fault_between mid y x fails =
     let count : failed_store_calls (then_calls mid y).calls ≡ failed_store_calls y + failed_store_calls mid.calls = ap failed_store_calls (then_calls-calls mid y) ∙ failed-append y mid.calls in
-    omega (arith, fails, count, failed-append y x)
+    omega (arith, fails.1, count, failed-append y x)
 
 -- none did
 faultless_more : (mid : History) (y x : List Call) → Fails false mid (then_calls mid y) → failed_store_calls x ≡ 0 → failed_store_calls (y ++ x) ≡ 0
@@ -271,6 +271,7 @@ creation_ends store tag was x y (Ok done) low ready made alone fails =
       fresh = subst (λ (h : History). IsFreshStore (files h) (tag_of ready.bytes)) (sym now)
           (subst (IsFreshStore (files (then_calls (then_calls was x) y))) ready.tag_is (fresh_stands _ tag low made.1.current));
       quiet = quiet_now;
+      rests = subst (IsQuiet 0) (sym now) made.4;
       images = λ quiet image is.
           subst (IsFreshStore image) ready.tag_is
           (fresh_stands image tag low (quiet_image (then_calls was (y ++ x)) image (quiet_now quiet) is ∙ ap (λ (h : History). standing_of (files h)) now ∙ made.1.current));

@@ -36,7 +36,7 @@ use Rattle.kms_serve.specs.declared.status.Status.TheVariants as status
 use Rattle.kms_serve.proofs.CrashLaws.{quiet_image, stands_as, stands_by}
 use Rattle.kms_serve.proofs.EventLaws.{after-first}
 use Rattle.kms_serve.proofs.GiveLaws.{on_line-nil}
-use Rattle.kms_serve.proofs.ToldLaws.{tells_both}
+use Rattle.kms_host.proofs.ToldLaws.{tells_both}
 use Rattle.kms_serve.proofs.StoreCallLaws.{same_by_files, store_failed-append, only_files, failed_since, failed_once, unfailed_before, before_more}
 
 abbrev pub failure : StartFault → Result Held StartFault

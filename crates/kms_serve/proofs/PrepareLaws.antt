@@ -30,7 +30,7 @@ use Rattle.kms_serve.specs.StoreCalls.{store_failed, IsUnfailedBefore, OnlyFiles
 use Rattle.kms_serve.specs.Turns.{CanServe}
 use Rattle.kms_serve.specs.declared.owed.Owed.{Owed}
 use Rattle.kms_serve.proofs.CrashLaws.{same_told, same_took, same_gave_all, settled_same, settled_stands}
-use Rattle.kms_serve.proofs.ToldLaws.{tells_both, tells_idle}
+use Rattle.kms_host.proofs.ToldLaws.{tells_both, tells_idle}
 use Rattle.kms_serve.proofs.StoreCallLaws.{only_files, failed_since, failed_once, same_by_files}
 
 -- what settling promises, as its contract says it

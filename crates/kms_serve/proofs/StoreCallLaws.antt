@@ -110,7 +110,7 @@ some_failed (c ∷ calls) e = some_here (store_call_failed c) (store_failed call
 pub failed_since : (was : History) (calls : List Call) (b : Bool) → Fails b was (then_calls was calls) → store_failed calls ≡ b
 failed_since was calls true f =
     let all = ap failed_store_calls (then_calls-calls was calls) ∙ failed-append calls was.calls in
-    some_failed calls (omega (arith, f, all))
+    some_failed calls (omega (arith, f.1, all))
 failed_since was calls false f =
     let all = ap failed_store_calls (then_calls-calls was calls) ∙ failed-append calls was.calls in
     none_failed calls (omega (arith, f, all))
@@ -139,4 +139,9 @@ before_more (c ∷ late) early first second = both_unfailed late early first sec
 -- Where one of them failed that is the newest.
 pub failed_once : (was : History) (calls : List Call) (b : Bool) → Fails b was (then_calls was calls) → IsUnfailedBefore calls
 failed_once was calls false f = unfailed_before calls (failed_since was calls false f)
-failed_once was calls true f = ?
+failed_once was [] true f = refl
+failed_once was (c ∷ calls) true f =
+    let n = failed_store_calls (then_calls was calls).calls in
+    let all = ap failed_store_calls (then_calls-calls was calls) ∙ failed-append calls was.calls in
+    let one : n + 1 ≡ failed_store_calls was.calls + 1 = sym (ap (λ (t : Bool). cond t (n + 1) n) f.0) ∙ f.1 in
+    none_failed calls (omega (arith, all, one))

@@ -4,7 +4,8 @@ use Rattle.std.specs.Int.{w64, from_be_bytes}
 use Rattle.kms_host.specs.Disk.{disk, files, IsImage}
 use Rattle.kms_host.specs.History.{History, then_call}
 use Rattle.kms_host.specs.Moment.{AtEach, then_calls}
-use Rattle.kms_host.specs.Store.{apart_from_files, failed_store_calls}
+use Rattle.kms_host.specs.Line.{IsOpen}
+use Rattle.kms_host.specs.Store.{apart_from_files, failed_store_calls, OnlyAttached}
 use Rattle.kms_host.specs.declared.call.Call.{Call}
 use Rattle.kms_host.specs.declared.call.Call.TheVariants.{Attached, Drew}
 use Rattle.kms_host.specs.declared.call.Failed.{Failed}
@@ -13,7 +14,7 @@ use Rattle.kms_host.specs.declared.call.NameFault.TheVariants as names
 use Rattle.kms_host.specs.declared.call.Purpose.TheVariants.{Tag}
 use Rattle.kms_world.specs.State.{empty_state}
 use Rattle.kms_journal.specs.Create.{fresh}
-use Rattle.kms_journal.specs.Device.{IsQuietStore}
+use Rattle.kms_journal.specs.Device.{IsQuiet, IsQuietStore}
 use Rattle.kms_journal.specs.Standing.{Standing, standing_of}
 use Rattle.kms_journal.specs.declared.fault.CreateFault.{CreateFault}
 use Rattle.kms_journal.specs.declared.fault.CreateFault.TheVariants as creation
@@ -81,14 +82,15 @@ pub record IsUnderWay (store : List ℕ) (was : History) (calls : List Call) : T
       ⊎ (IsNoStore was × ((bytes : List ℕ) × (length bytes ≡ 8) × (apart_from_files calls ≡ drawing store (Some bytes)) × IsFreshStore image (tag_of bytes)))
   pub kept : IsStore was → AreAsBefore was calls
 
--- There was no store. Eight bytes were drawn, and the files as they read now are a fresh store of their tag. So is each crash
--- image, if nothing was pending when the run began.
+-- There was no store. Eight bytes were drawn, and the files as they read now are a fresh store of their tag, with nothing
+-- pending on its file. So is each crash image, if nothing was pending when the run began.
 pub record IsCreated (store : List ℕ) (was : History) (calls : List Call) : Type 0 where
   pub none : IsNoStore was
   pub bytes : List ℕ
   pub eight : length bytes ≡ 8
   pub drawn : apart_from_files calls ≡ drawing store (Some bytes)
   pub fresh : IsFreshStore (files (then_calls was calls)) (tag_of bytes)
+  pub rests : IsQuiet 0 (then_calls was calls)
   pub quiet : IsQuietStore was → IsQuietStore (then_calls was calls)
   pub images : IsQuietStore was → (image : List ℕ × List ℕ) → IsImage (then_calls was calls) image → IsFreshStore image (tag_of bytes)
 
@@ -118,6 +120,15 @@ pub record Inits (store : List ℕ) (s : Status) (was : History) (calls : List C
   pub each : AtEach (IsUnderWay store was) calls
   pub end : IsInitEnd store s was calls
   pub faultless : (s ≡ status.StoreFault → ⊥) → failed_store_calls calls ≡ 0
+
+-- The store of this name can be served: no other was attached, and line 0 is open.
+pub record CanBeServed (store : List ℕ) (h : History) : Type 0 where
+  pub named : OnlyAttached store h.calls
+  pub unshut : IsOpen 0 h
+
+-- After a run of `init` the store can be served over the same host, if it could before.
+abbrev pub IsServedNext : Type 0
+IsServedNext = (store : List ℕ) (s : Status) (was : History) (calls : List Call) → Inits store s was calls → CanBeServed store was → CanBeServed store (then_calls was calls)
 
 -- what creating a store can end with
 abbrev pub IsInitStatus : Status → Type 0
