@@ -1,5 +1,5 @@
 -- Steps, and what preparing one promises.
-use Rattle.std.specs.Prelude.{◌≡◌, ℕ, ◌<◌, ◌+◌, ◌^◌, Option, Some, None, Bool, IsTrue}
+use Rattle.std.specs.Prelude.{◌≡◌, ℕ, ◌<◌, ◌+◌, ◌^◌, Option, Some, None, Bool, false, IsTrue}
 use Rattle.kms_world.specs.State.{State}
 use Rattle.kms_world.specs.Times.{IsTimely}
 use Rattle.kms_world.specs.Effect.{SecretPut, after_effect}
@@ -38,6 +38,10 @@ IsSpelledBehind engine step = (step.waiting.count ≡ count_of engine.store.wait
 -- no step waits
 abbrev pub IsIdle : Held → Type 0
 IsIdle engine = engine.store.waiting ≡ None
+
+-- no call of the store has failed in one of the engine's calls
+abbrev pub IsWorking : Held → Type 0
+IsWorking engine = engine.store.journal.failed ≡ false
 
 -- The engine's store stands for its state after so many steps, and no step waits.
 pub record IsSettled (engine : Held) (steps : ℕ) (h : History) : Type 0 where

@@ -10,9 +10,9 @@ ghost use Rattle.kms_host.specs.declared.call.Count.TheVariants as counts;
 ghost use Rattle.kms_journal.specs.Fault.{Fails};
 ghost use Rattle.kms_journal.specs.Position.{IsPlaced};
 ghost use Rattle.kms_journal.specs.Standing.{Standing};
-ghost use Rattle.kms_core.specs.Steps.{after_step, Prepares, IsIdle, IsSpelledBehind};
+ghost use Rattle.kms_core.specs.Steps.{after_step, Prepares, IsIdle, IsWorking, IsSpelledBehind};
 ghost use Rattle.kms_core.specs.Settling.{IsOpened, Settles};
-ghost use Rattle.kms_core.specs.Waiting.{count_of, with_waiting};
+ghost use Rattle.kms_core.specs.Waiting.{count_of, with_waiting, with_failed};
 
 use crate::opened::Opened;
 use crate::step::refused;
@@ -96,15 +96,17 @@ impl Engine {
 
     /// Writes the accepted steps that wait to the store, as one record, with at most two syncs. It takes no memory. With
     /// no step that waits it makes no call on the host. From an Ok on they are on the disk. After a fault the store has
-    /// all of them or none: start another engine.
+    /// all of them or none, and the engine settles no more: start another.
     pub fn settle<H: Host>(&mut self, host: &mut H) -> Result<(), StoreFault>
+        requires working { IsWorking self.old }
         requires placed { IsTrue (is_some self.old.store.waiting) → WhereTold (H.history host.old) (λ h. (s : Standing) × IsPlaced self.old.store.journal h s) }
         ensures told { Tells (H.history host.old) (H.history host.new) (λ was now. (settled : State) (steps : ℕ)
             → IsOpened self.old.store was settled steps self.old.state
             → Settles self.new.store result settled steps self.old.state (count_of self.old.store.waiting) was now) }
         ensures same { self.new.state ≡ self.old.state }
         ensures ok { OnOk result (IsIdle self.new) }
-        ensures err { OnErr result (self.new ≡ self.old) }
+        ensures working { OnOk result (IsWorking self.new) }
+        ensures fails { OnErr result (self.new ≡ record self.old { store = with_failed self.old.store }) }
         ensures idle { IsIdle self.old → (result ≡ Ok tt) × (host.new ≡ host.old) }
         ensures cause { HasCause counts.Store (H.faults host.old) (H.faults host.new) result }
         ensures failed { Tells (H.history host.old) (H.history host.new) (Fails (is_err result)) }

@@ -22,6 +22,7 @@ pub struct PipeHost {
     store: u64,
     link: u64,
     draw: u64,
+    listen: u64,
 }
 
 impl Model for PipeHost {
@@ -29,7 +30,7 @@ impl Model for PipeHost {
 
     ghost Value = { Faults };
 
-    ghost view = { λ p. record { key_file = p.key_file; store = p.store; link = p.link; draw = p.draw; listen = 0 } };
+    ghost view = { λ p. record { key_file = p.key_file; store = p.store; link = p.link; draw = p.draw; listen = p.listen } };
 }
 
 impl PipeHost {
@@ -44,6 +45,7 @@ impl PipeHost {
             store: 0,
             link: 0,
             draw: 0,
+            listen: 0,
         }
     }
 }
@@ -89,6 +91,15 @@ impl Host for PipeHost {
                 Err(NameFault::Failed)
             }
         }
+    }
+
+    fn listen(&mut self, _address: &str) -> Result<(), NameFault> {
+        self.listen = self.listen.saturating_add(1);
+        Err(NameFault::Failed)
+    }
+
+    fn next_line(&mut self) -> Result<Option<u32>, Failed> {
+        Ok(None)
     }
 
     fn take(&mut self, line: u32, room: &mut [u8]) -> Result<usize, Failed> {

@@ -22,7 +22,7 @@ use Rattle.kms_serve.proofs.CrashLaws.{settled_stands}
 use Rattle.kms_serve.proofs.EndLaws.{serves}
 use Rattle.kms_serve.proofs.EventLaws.{after-first}
 use Rattle.kms_serve.proofs.GiveLaws.{on_line-nil}
-use Rattle.kms_serve.proofs.ToldLaws.{since_both}
+use Rattle.kms_host.proofs.ToldLaws.{since_both}
 use Rattle.kms_serve.proofs.OpeningLaws.{answered_as_before, before_all, good_opened, ended_unopened}
 
 -- an engine that can serve begins well, from any moment

@@ -3,7 +3,7 @@ use Rattle.std.specs.Prelude.{◌≡◌, ◌⊎◌, ℕ, ◌+◌, ◌*◌, ◌�
 use Rattle.kms_host.specs.Line.{taken, sent, times, at_end, failed_on, is_shut, IsStill}
 use Rattle.kms_host.specs.Store.{apart_from_files, syncs}
 use Rattle.kms_host.specs.declared.call.Call.{Call}
-use Rattle.kms_host.specs.declared.call.Call.TheVariants.{Text, Attached, Took, Gave, Shut, OnFile, Told, Drew}
+use Rattle.kms_host.specs.declared.call.Call.TheVariants.{Text, Listened, Came, Attached, Took, Gave, Shut, OnFile, Told, Drew}
 use Rattle.kms_host.specs.declared.call.NameFault.{NameFault}
 use Rattle.kms_model.specs.declared.event.Mark.{Mark}
 use Rattle.kms_http.specs.Stream.{front, after}
@@ -55,12 +55,13 @@ pub record IsNamed (b : RunStart) (name : List ℕ) (calls : List Call) : Type 0
   pub at_first : calls ≡ []
 
 -- A file is called while the store is opened, or when the newest request has a step; and when the replies to all requests but
--- the newest were given whole, and nothing more, and no call of the line failed.
+-- the newest were given whole, and nothing more, and no call of the line failed, nor one of the store.
 pub record IsBetween (endpoint : List ℕ) (b : RunStart) (marks : List Mark) (calls : List Call) : Type 0 where
   pub given : (line : ℕ) → sent line calls ≡ replies line endpoint b.first (before_newest (events calls)) marks
   pub needed : ((done : Result (Unit {0}) NameFault) × (apart_from_files calls ≡ Attached b.store done ∷ []))
       ⊎ (steps_by b.first (before_newest (events calls)) marks < steps_by b.first (events calls) marks)
   pub sound : failed_on 0 calls ≡ false
+  pub unfailed : store_failed calls ≡ false
 
 -- A time is told when all replies were given whole, and no call of the store failed.
 pub record IsNewRequest (endpoint : List ℕ) (b : RunStart) (marks : List Mark) (calls : List Call) : Type 0 where
@@ -71,6 +72,8 @@ pub record IsNewRequest (endpoint : List ℕ) (b : RunStart) (marks : List Mark)
 abbrev pub InTurn : (endpoint : List ℕ) → RunStart → List Mark → List Call → Type 0
 InTurn endpoint b marks [] = Unit {0}
 InTurn endpoint b marks (Text name room bytes ∷ calls) = ⊥
+InTurn endpoint b marks (Listened address done ∷ calls) = ⊥
+InTurn endpoint b marks (Came line ∷ calls) = ⊥
 InTurn endpoint b marks (Attached name done ∷ calls) = IsNamed b name calls
 InTurn endpoint b marks (Took line room bytes ∷ calls) = IsReady endpoint b marks line room calls
 InTurn endpoint b marks (Gave line piece went ∷ calls) = IsNext endpoint b marks line piece calls

@@ -1,9 +1,9 @@
 -- How a run ends.
 use Rattle.std.specs.Prelude.{◌≡◌, ◌⊎◌, ℕ, ◌+◌, ◌<◌, List, [], ◌∷◌, length, true, false, Some, None}
-use Rattle.kms_host.specs.Disk.{files}
+use Rattle.kms_host.specs.Disk.{files, IsImage}
 use Rattle.kms_host.specs.Line.{taken, sent, at_end, failed_on}
 use Rattle.kms_host.specs.declared.call.Call.{Call}
-use Rattle.kms_host.specs.declared.call.Call.TheVariants.{Text, Attached, Took, Gave, Shut, OnFile, Told, Drew}
+use Rattle.kms_host.specs.declared.call.Call.TheVariants.{Text, Listened, Came, Attached, Took, Gave, Shut, OnFile, Told, Drew}
 use Rattle.kms_journal.specs.Device.{IsQuietStore}
 use Rattle.kms_core.specs.Stands.{Stands}
 use Rattle.kms_model.specs.declared.event.Mark.{Mark}
@@ -21,11 +21,13 @@ use Rattle.kms_serve.specs.declared.status.Status.TheVariants as status
 abbrev pub AllGiven : (endpoint : List ℕ) → RunStart → List Mark → List Call → Type 0
 AllGiven endpoint b marks calls = (line : ℕ) → sent line calls ≡ replies line endpoint b.first (events calls) marks
 
--- The store stands for the state after all events, and has their steps, and no call of it failed. Nothing is pending, if
--- nothing was when the run began.
+-- The store stands for the state after all events, and has their steps, and no call of it failed. If nothing was pending when
+-- the run began, nothing is, and each crash image stands for that state and has those steps.
 pub record AllKept (b : RunStart) (marks : List Mark) (calls : List Call) : Type 0 where
   pub stands : Stands (files (history b calls)) (state_by b.first (events calls) marks) (b.steps + steps_by b.first (events calls) marks)
   pub quiet : IsQuietStore b.was → IsQuietStore (history b calls)
+  pub images : IsQuietStore b.was → (image : List ℕ × List ℕ) → IsImage (history b calls) image
+      → Stands image (state_by b.first (events calls) marks) (b.steps + steps_by b.first (events calls) marks)
   pub unfailed : store_failed calls ≡ false
 
 -- The line was read to its end, and the bytes behind its last message are a part of one, which begins at this place.
@@ -56,6 +58,8 @@ EndsClean calls =
 abbrev pub EndsFailed : ℕ → List Call → Type 0
 EndsFailed line [] = ⊥
 EndsFailed line (Text name room bytes ∷ calls) = ⊥
+EndsFailed line (Listened address done ∷ calls) = ⊥
+EndsFailed line (Came next ∷ calls) = ⊥
 EndsFailed line (Attached name done ∷ calls) = ⊥
 EndsFailed line (Took l room (Some bytes) ∷ calls) = ⊥
 EndsFailed line (Took l room None ∷ calls) = l ≡ line
@@ -80,6 +84,8 @@ IsUnfinished calls = (rest : List ℕ) × (after most (length (events calls)) (t
 abbrev pub EndsShut : List Call → Type 0
 EndsShut [] = ⊥
 EndsShut (Text name room bytes ∷ calls) = ⊥
+EndsShut (Listened address done ∷ calls) = ⊥
+EndsShut (Came line ∷ calls) = ⊥
 EndsShut (Attached name done ∷ calls) = ⊥
 EndsShut (Took l room bytes ∷ calls) = ⊥
 EndsShut (Gave l piece went ∷ calls) = ⊥

@@ -4,6 +4,7 @@
 
 mod give;
 mod init;
+pub mod laws;
 mod line;
 mod open;
 mod owed;

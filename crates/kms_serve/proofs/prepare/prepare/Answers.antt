@@ -6,7 +6,7 @@ use Rattle.kms_serve.specs.Events.{event}
 use Rattle.kms_serve.specs.Owed.{steps_at}
 use Rattle.kms_serve.specs.Turns.{CanServe}
 use Rattle.kms_serve.proofs.PrepareLaws.{placed, settling, prepared, open_settling, ready_settling}
-use Rattle.kms_serve.proofs.ToldLaws.{uncalled}
+use Rattle.kms_host.proofs.ToldLaws.{uncalled}
 use Rattle.kms_serve.proofs.prepare.prepare.Goals as goal
 
 pub settle-requires : goal.settle-requires
