@@ -1,5 +1,5 @@
 -- Answers as replies: each body is JSON (RFC 8259) without white space.
-use Rattle.std.specs.Prelude.{ℕ, List, [], ◌∷◌, Option, Some, None}
+use Rattle.std.specs.Prelude.{ℕ, List, [], Option, Some, None}
 use Rattle.serde_json.specs.Data.{Data}
 use Rattle.serde_json.specs.Written.{compact_text}
 use Rattle.kms_world.specs.declared.answer.Answer.{Answer}
