@@ -5,8 +5,7 @@ use crate::Failed;
 use crate::pipe::limit::FileLimit;
 use std::fs::File;
 use std::io::{ErrorKind, Read, Write};
-use std::os::fd::{AsFd, AsRawFd, IntoRawFd, OwnedFd};
-use std::process::ChildStdin;
+use std::os::fd::{AsRawFd, IntoRawFd};
 use std::rt::HostRuntime;
 use std::time::{SystemTime, UNIX_EPOCH};
 
@@ -16,14 +15,10 @@ const OUTPUT: &str = "/proc/self/fd/1";
 const ERROR: &str = "/proc/self/fd/2";
 
 /// The standard streams. The numbers 0, 1 and 2 belong to them for the life of the process, also where it was started
-/// without some of them: then each call on the missing one fails.
-///
-/// Output goes through a second descriptor of the same stream, of the type that writes without a signal (SIGPIPE) where
-/// nobody reads.
+/// without some of them: then each call on the missing one fails. Where nobody reads what is written the call fails too,
+/// since the toolchain's start of a program has the signal for that (SIGPIPE) ignored.
 #[derive(Drop)]
 pub struct Streams {
-    output: ChildStdin,
-    error: ChildStdin,
     limit: FileLimit,
 }
 
@@ -33,8 +28,6 @@ impl Streams {
     pub fn open(rt: HostRuntime) -> Result<Streams, Failed> {
         hold_numbers(rt)?;
         Ok(Streams {
-            output: ChildStdin::from(second(&rt.stdout())?),
-            error: ChildStdin::from(second(&rt.stderr())?),
             limit: FileLimit::of_process(rt),
         })
     }
@@ -67,9 +60,8 @@ impl Streams {
         if self.limit.is_reached_by(rt, OUTPUT) {
             return Err(Failed);
         }
-        let mut output = &self.output;
         for _ in 0..u64::MAX {
-            match output.write(piece) {
+            match rt.stdout().write(piece) {
                 Ok(0) => return Err(Failed),
                 Ok(count) => return Ok(count),
                 Err(error) if error.kind() == ErrorKind::Interrupted => {}
@@ -82,7 +74,7 @@ impl Streams {
     /// Writes a line to standard error. It is lost where that can't be.
     pub fn tell(&self, rt: HostRuntime, line: &[u8]) {
         if !self.limit.is_reached_by(rt, ERROR) {
-            let _ = (&self.error).write_all(line);
+            let _ = rt.stderr().write_all(line);
         }
     }
 }
@@ -100,14 +92,6 @@ fn hold_numbers(rt: HostRuntime) -> Result<(), Failed> {
         }
     }
     Err(Failed)
-}
-
-// A second descriptor of a stream. Its number is above 2.
-fn second<S: AsFd>(stream: &S) -> Result<OwnedFd, Failed> {
-    match stream.as_fd().try_clone_to_owned() {
-        Ok(second) => Ok(second),
-        Err(_) => Err(Failed),
-    }
 }
 
 /// The system's time in seconds. A clock that can't be read, or is set before 1970, tells 0.
