@@ -61,10 +61,10 @@ draws_over_a_store store s was bytes later calls there i =
     let u = at_each (IsUnderWay store was) later (Drew Tag bytes ∷ calls) i.each in
     let no : None ≡ Some there.0 = sym (drew_where store was bytes (apart_from_files calls) u.alone) ∙ there.1 in cc
 
--- it goes on behind a call of the store that failed
-pub goes_on_behind_a_fault : (store : List ℕ) (s : Status) (was : History) (f : ℕ) (c : FileCall) (next : Call) (calls : List Call) → file_call_failed c ≡ true
+-- it goes on after a call of the store that failed
+pub goes_on_after_a_fault : (store : List ℕ) (s : Status) (was : History) (f : ℕ) (c : FileCall) (next : Call) (calls : List Call) → file_call_failed c ≡ true
     → Inits store s was (next ∷ OnFile f c ∷ calls) → ⊥
-goes_on_behind_a_fault store s was f c next calls failed i =
+goes_on_after_a_fault store s was f c next calls failed i =
     let sound : (file_call_failed c || store_failed calls) ≡ false = i.each.0.unfailed in
     let no : true ≡ false = sym (ap (λ (b : Bool). b || store_failed calls) failed) ∙ sound in cc
 

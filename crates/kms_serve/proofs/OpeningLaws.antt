@@ -126,7 +126,7 @@ module _ (store : List ℕ) (was now : History) where
         opened_now t,
         record {
           opening = opening_of t false fails;
-          start = subst (IsStart (Ok engine) was) (opened_now t) (a.0, a.1, a.2, λ quiet. a.3 (quiet_mid quiet));
+          start = subst (IsStart (Ok engine) was) (opened_now t) (a.0, a.1, a.2, λ quiet. a.3 (quiet_mid quiet), a.4);
           unfailed = failed_then t.more false t.extends fails;
         },
       )

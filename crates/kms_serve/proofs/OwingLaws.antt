@@ -28,7 +28,7 @@ use Rattle.kms_http.specs.declared.fault.FaultReply.TheVariants.{F1}
 use Rattle.kms_serve.specs.RunStart.{RunStart, history}
 use Rattle.kms_serve.specs.Events.{LineEvent, events, event, event_at, most}
 use Rattle.kms_serve.specs.Replies.{asked, state_by, steps_by, reply_to, replies, before_newest, fault_on, due}
-use Rattle.kms_serve.specs.Answered.{Answered, InTurn, IsReady, IsNext, IsOver, IsServed, IsBetween}
+use Rattle.kms_serve.specs.Answered.{Answered, InTurn, MayTake, MayGive, MayShut, IsServed, MayCallFile}
 use Rattle.kms_serve.specs.Ends.{AllGiven, AllKept, EndsUnreadable}
 use Rattle.kms_serve.specs.Owed.{Prepares, Settled, OnlyLeft, Gives, GivesFault, owed_bytes, is_fault, steps_at}
 use Rattle.kms_serve.specs.Opening.{IsAsBefore}
@@ -235,7 +235,7 @@ module _ (endpoint : List ℕ) (b : RunStart) (s : Serving) (then : Held) (stand
         few_syncs = rw (same_events on_files only) (few_settling on_files need settling);
       }
 
-  between : (on_files : List Call) → OnlyFiles on_files → store_failed on_files ≡ false → 0 < steps_at s.engine e mark → IsBetween endpoint b marks (on_files ++ Told time ∷ x)
+  between : (on_files : List Call) → OnlyFiles on_files → store_failed on_files ≡ false → 0 < steps_at s.engine e mark → MayCallFile endpoint b marks (on_files ++ Told time ∷ x)
   between on_files only unfailed need = record {
     unfailed = both_unfailed on_files (Told time ∷ x) unfailed o.unfailed;
     needed = inr (rw (same_events on_files only, before_newest-more es e) (omega (arith, need, steps_then, steps_before)));
@@ -371,12 +371,12 @@ given_here endpoint b marks owed l piece went gives calls a owes keep sound only
     ∙ ap (λ z. sent 0 (gives ++ calls) ++ z) (sym (append-nil piece))
     in
     let whole : failed_on 0 (gives ++ calls) ≡ false = failed_on-append 0 gives calls ∙ ap (λ f. f || failed_on 0 calls) only.0.sound ∙ sound in
-    let in_turn : IsNext endpoint b marks 0 piece (gives ++ calls) = record { some = only.0.some; rest = []; next = next } in
+    let in_turn : MayGive endpoint b marks 0 piece (gives ++ calls) = record { some = only.0.some; rest = []; next = next } in
     record {
       within = rw same a.within;
       timed = rw (times-gives 0 gives calls gave.1, same) a.timed;
       printed = λ line. (on_line line rest.0, shown line);
-      in_turn = subst (λ (k : ℕ). IsNext endpoint b marks k piece (gives ++ calls)) (sym only.0.of_line) in_turn;
+      in_turn = subst (λ (k : ℕ). MayGive endpoint b marks k piece (gives ++ calls)) (sym only.0.of_line) in_turn;
       still = subst (λ (k : ℕ). failed_on k (gives ++ calls) ≡ false) (sym only.0.of_line) whole;
       safe = safe endpoint b marks (Gave l piece went ∷ (gives ++ calls)) (keep_on b marks calls (Gave l piece went ∷ (gives ++ calls)) same fails (same_gives 0 b (Gave l piece went ∷ gives) calls gave) keep);
       unasked = λ none.
@@ -522,7 +522,7 @@ shut_each : (endpoint : List ℕ) (b : RunStart) (marks : List Mark) (calls : Li
     → IsServed calls → store_failed calls ≡ false → AllKeep b marks calls → AtEach (Answered endpoint b marks) calls → AtEach (Answered endpoint b marks) (Shut 0 ∷ calls)
 shut_each endpoint b marks calls once given over unfailed keep each =
     let a = at_now (Answered endpoint b marks) calls each in
-    let turn : IsOver endpoint b marks 0 calls = record { of_line = refl; once = once; given = given; over = over; unfailed = unfailed } in
+    let turn : MayShut endpoint b marks 0 calls = record { of_line = refl; once = once; given = given; over = over; unfailed = unfailed } in
     let unasked : events calls ≡ [] → IsAsBefore b.was (history b (Shut 0 ∷ calls)) =
     λ none. as_before_same b.was (history b calls) (history b (Shut 0 ∷ calls)) (same_shut (history b calls) 0) refl (a.unasked none) in
     let here = safe endpoint b marks (Shut 0 ∷ calls) (keep_on b marks calls (Shut 0 ∷ calls) refl refl (same_shut (history b calls) 0) keep) in
@@ -667,7 +667,7 @@ took_each : (endpoint : List ℕ) (b : RunStart) (s : Serving) (n : ℕ) (bytes 
     → (g : GoodAt endpoint b s calls) → AtEach (Answered endpoint b g.marks) (Took 0 n bytes ∷ calls)
 took_each endpoint b s n bytes calls size part g =
     let a = at_now (Answered endpoint b g.marks) calls g.each in
-    let ready : IsReady endpoint b g.marks 0 n calls = record {
+    let ready : MayTake endpoint b g.marks 0 n calls = record {
       of_line = refl;
       of_size = size;
       unended = g.unfinished;

@@ -121,17 +121,17 @@ replies_too_early endpoint b s calls image c quiet is stands begun stores =
     let one = one_state image b.first (state_by b.first (take h.count (events calls)) c.marks) b.steps (b.steps + steps_by b.first (take h.count (events calls)) c.marks) stands h.stands in
     omega (arith, h.acknowledged 0 0 begun, stores, one.1)
 
--- it calls a file behind a call of a file that failed
-pub goes_on_behind_a_fault : (endpoint : List ℕ) (b : RunStart) (s : Status) (f g : ℕ) (c d : FileCall) (calls : List Call) → file_call_failed c ≡ true
+-- it calls a file after a call of a file that failed
+pub goes_on_after_a_fault : (endpoint : List ℕ) (b : RunStart) (s : Status) (f g : ℕ) (c d : FileCall) (calls : List Call) → file_call_failed c ≡ true
     → Serves endpoint b s (OnFile g d ∷ OnFile f c ∷ calls) → ⊥
-goes_on_behind_a_fault endpoint b s f g c d calls failed k =
+goes_on_after_a_fault endpoint b s f g c d calls failed k =
     let sound : (file_call_failed c || store_failed calls) ≡ false = (at_the_end endpoint b s (OnFile g d ∷ OnFile f c ∷ calls) k).in_turn.unfailed in
     let no : true ≡ false = sym (ap (λ (x : Bool). x || store_failed calls) failed) ∙ sound in cc
 
 -- it tries again a sync that failed while its store was opened
 pub syncs_again : (endpoint : List ℕ) (b : RunStart) (s : Status) (store : List ℕ)
     → Serves endpoint b s (OnFile 0 (Synced false) ∷ OnFile 0 (Synced false) ∷ Attached store (Ok tt) ∷ []) → ⊥
-syncs_again endpoint b s store = goes_on_behind_a_fault endpoint b s 0 0 (Synced false) (Synced false) (Attached store (Ok tt) ∷ []) refl
+syncs_again endpoint b s store = goes_on_after_a_fault endpoint b s 0 0 (Synced false) (Synced false) (Attached store (Ok tt) ∷ []) refl
 
 -- it ends well and leaves a request's step behind
 pub ends_without_a_step : (endpoint : List ℕ) (b : RunStart) (calls : List Call) → (c : Serves endpoint b status.Done calls) → Stands (files (history b calls)) b.first b.steps

@@ -61,7 +61,7 @@ pub record IsAsBefore (was h : History) : Type 0 where
   pub other : (s : Standing) → standing_of (files was) ≡ Some s → (f : ℕ) → s.file ≢ f → disk f h ≡ disk f was
   pub syncs : syncs h.calls ≤ syncs was.calls + 2
 
--- The store of this name was attached, or not, and then calls were made on its files alone, none behind one that failed. At
+-- The store of this name was attached, or not, and then calls were made on its files alone, none after one that failed. At
 -- each moment it stood for what it stood for before.
 pub record IsOpening (store : List ℕ) (was : History) (calls : List Call) : Type 0 where
   pub done : Result (Unit {0}) NameFault

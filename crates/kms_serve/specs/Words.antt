@@ -1,5 +1,6 @@
 -- The words of the command line: `init --store NAME`, or `pipe --store NAME --keys NAME --endpoint TEXT`, in this order.
-use Rattle.std.specs.Prelude.{ℕ, List, [], ◌∷◌, Bool, false, not, ◌&&◌, ◌==◌, Option, Some, None, option_or, if◌then◌else◌, codes, map, string_bytes, String}
+use Rattle.std.specs.Prelude.{ℕ, List, [], ◌∷◌, Bool, false, not, ◌&&◌, ◌==◌, Option, Some, None, if◌then◌else◌, codes, map, string_bytes, String}
+use Rattle.std.specs.Option.{option_or}
 use Rattle.std.specs.Str.{bytes_eq}
 use Rattle.std.specs.declared.alloc.Global.{Global}
 

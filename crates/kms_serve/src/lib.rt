@@ -12,8 +12,6 @@ mod prepare;
 mod program;
 mod serving;
 mod status;
-#[cfg(test)]
-mod tests;
 mod words;
 
 pub use program::run;

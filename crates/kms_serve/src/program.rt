@@ -6,7 +6,7 @@ ghost use Rattle.kms_host.specs.Line.{IsOpen};
 ghost use Rattle.kms_host.specs.Store.{OnlyAttached};
 ghost use Rattle.kms_host.specs.Moment.{Since};
 ghost use Rattle.kms_serve.specs.Init.{IsInitStatus};
-ghost use Rattle.kms_serve.specs.Theorem.{Answers, Carries, IsPipeStatus, IsUnfaulted};
+ghost use Rattle.kms_serve.specs.Theorem.{RunPromise, Carries, IsPipeStatus, IsUnfaulted};
 ghost use Rattle.kms_serve.specs.Words as spec;
 
 use crate::init::init_store;
@@ -54,7 +54,7 @@ pub fn run<H: Host>(alloc: Global, words: &[String], host: &mut H) -> Status
         → WhereTold (H.history host.old) (λ h. OnlyAttached store h.calls) }
 
     // What was sent by each moment and what a stop leaves then, how the run ended, and that its calls determine how.
-    ensures answers { Answers (spec.init_of (spec.texts words.now)) (spec.pipe_of (spec.texts words.now)) (H.history host.old) (H.history host.new) result }
+    ensures answers { RunPromise (spec.init_of (spec.texts words.now)) (spec.pipe_of (spec.texts words.now)) (H.history host.old) (H.history host.new) result }
 
     // Words that are not understood end the run before its first call.
     ensures words { spec.init_of (spec.texts words.now) ≡ None → spec.pipe_of (spec.texts words.now) ≡ None → host.new ≡ host.old }
