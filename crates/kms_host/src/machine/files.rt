@@ -81,9 +81,9 @@ impl StoreFiles {
         }
     }
 
-    /// Brings a file and its length to the disk (`fsync`).
+    /// Brings a file's bytes and its length to the disk (`fdatasync`).
     pub fn sync(&self, file: u8) -> Result<(), Failed> {
-        match self.file(file).sync_all() {
+        match self.file(file).sync_data() {
             Ok(()) => Ok(()),
             Err(_) => Err(Failed),
         }
