@@ -1,24 +1,34 @@
-// The trusted edge towards the machine: what its hosts have in common. Key files, the files of a store, the system's clock
-// and its random source, and how many calls of each kind failed.
+// The trusted edge towards the machine: what its hosts have in common. The standard streams, key files, the files of a store,
+// the system's clock and its random source, and how many calls of each kind failed.
 ghost use Rattle.std.specs.Prelude.{◌≡◌, ◌≤◌, ◌<◌, ◌+◌, ◌^◌, length, IfOk, OnOk, OnErr};
 ghost use Rattle.kms_host.specs.Faults.{no_faults, Rose, HasCause, HasNameCause};
 ghost use Rattle.kms_host.specs.declared.call.Count.TheVariants as counts;
 
 mod clock;
 mod files;
+mod limit;
+mod standard;
 pub mod stream;
 
 use crate::machine::clock::seconds;
 use crate::machine::files::{StoreFiles, read_front};
+use crate::machine::standard::Streams;
 use crate::{Failed, NameFault};
+use std::io::Write;
 use std::marker::Model;
 use std::random::RandomSource;
 use std::rt::HostRuntime;
 
-/// Key files, a store, clock and random source of this machine. Contracts see how many calls failed.
+/// What a host has of this machine. Contracts see how many calls failed.
+///
+/// The process makes it before it opens a file. No file and no connection then has the number of a standard stream that was
+/// closed when the process started, and neither a reader that went away nor the limit on the length of files ends the
+/// process: the call fails.
 #[derive(Drop)]
 pub struct Machine {
     rt: HostRuntime,
+    // None where they couldn't be had. Then no file is opened.
+    streams: Option<Streams>,
     files: Option<StoreFiles>,
     key_file: u64,
     store: u64,
@@ -53,6 +63,7 @@ impl Machine {
     {
         Machine {
             rt,
+            streams: Streams::open(rt).ok(),
             files: None,
             key_file: 0,
             store: 0,
@@ -66,12 +77,66 @@ impl Machine {
         self.rt
     }
 
+    /// Writes a line for the operator to standard error. It is lost where that can't be.
+    pub fn tell(&self, line: &[u8]) {
+        match &self.streams {
+            Some(streams) => streams.tell(self.rt, line),
+            None => {
+                let _ = self.rt.stderr().write_all(line);
+            }
+        }
+    }
+
+    /// Reads what is there of standard input.
+    pub fn input(&mut self, room: &mut [u8]) -> Result<usize, Failed>
+        ensures bound { IfOk result (λ n. n ≤ length room.new) }
+        ensures cause { HasCause counts.Link self.old self.new result }
+    {
+        let answer = match &self.streams {
+            Some(streams) => streams.read(self.rt, room),
+            None => Err(Failed),
+        };
+        counted(&mut self.link, answer)
+    }
+
+    /// Writes a front of the piece to standard output.
+    pub fn output(&mut self, piece: &[u8]) -> Result<usize, Failed>
+        ensures bound { IfOk result (λ n. n ≤ length piece.now) }
+        ensures some { IfOk result (λ n. 0 < length piece.now → 0 < n) }
+        ensures cause { HasCause counts.Link self.old self.new result }
+    {
+        let answer = match &self.streams {
+            Some(streams) => streams.write(self.rt, piece),
+            None => Err(Failed),
+        };
+        counted(&mut self.link, answer)
+    }
+
+    // The front of a file.
+    fn front(&self, name: &str, room: &mut [u8]) -> Result<usize, Failed>
+        ensures { IfOk result (λ n. n ≤ length room.new) }
+    {
+        match &self.streams {
+            Some(_) => read_front(self.rt, name, room),
+            None => Err(Failed),
+        }
+    }
+
+    // The files of a store.
+    fn open_files(&self, name: &str) -> Result<StoreFiles, NameFault> {
+        match &self.streams {
+            Some(_) => StoreFiles::open(self.rt, name),
+            None => Err(NameFault::Failed),
+        }
+    }
+
     /// The first bytes of a key file, as many as fit the room.
     pub fn text(&mut self, name: &str, room: &mut [u8]) -> Result<usize, NameFault>
         ensures bound { IfOk result (λ n. n ≤ length room.new) }
         ensures cause { HasNameCause counts.KeyFile self.old self.new result }
     {
-        match counted(&mut self.key_file, read_front(self.rt, name, room)) {
+        let answer = self.front(name, room);
+        match counted(&mut self.key_file, answer) {
             Ok(count) => Ok(count),
             Err(Failed) => Err(NameFault::Failed),
         }
@@ -82,7 +147,7 @@ impl Machine {
         ensures { HasNameCause counts.Store self.old self.new result }
     {
         self.files = None;
-        match StoreFiles::open(self.rt, name) {
+        match self.open_files(name) {
             Ok(files) => {
                 self.files = Some(files);
                 Ok(())

@@ -69,6 +69,11 @@ impl NetHost {
         }
     }
 
+    /// Writes a line for the operator to standard error. It is lost where that can't be.
+    pub fn tell(&self, line: &[u8]) {
+        self.machine.tell(line);
+    }
+
     // Waits for a connection, which is the next line. The number of a line has 32 bits.
     fn open_next(&mut self) -> Result<Option<u32>, Failed>
         ensures { self.new ≡ self.old }

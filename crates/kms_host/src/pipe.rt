@@ -3,13 +3,16 @@ ghost use Rattle.std.specs.Prelude.{◌≡◌, None};
 ghost use Rattle.kms_host.specs.Faults.{no_faults};
 
 use crate::machine::Machine;
-use crate::machine::stream::{read_some, write_some};
 use crate::{Failed, Host, NameFault, Purpose};
 use std::marker::Model;
 use std::rt::HostRuntime;
 
 /// A host whose line 0 is standard input and output. No other line comes; any other is at its end, and giving to it fails.
 /// A store is the two files `NAME.0` and `NAME.1`. It tells nothing but how many of its calls failed.
+///
+/// The process makes its host before it opens a file. No file is then read or written in the place of a standard stream
+/// that was closed when the process started, and neither a reader that went away nor the limit on the length of files ends
+/// the process: the call fails.
 #[derive(Drop)]
 pub struct PipeHost {
     machine: Machine,
@@ -31,6 +34,11 @@ impl PipeHost {
         PipeHost {
             machine: Machine::new(rt),
         }
+    }
+
+    /// Writes a line for the operator to standard error. It is lost where that can't be.
+    pub fn tell(&self, line: &[u8]) {
+        self.machine.tell(line);
     }
 }
 
@@ -64,17 +72,14 @@ impl Host for PipeHost {
         if line != 0 {
             return Ok(0);
         }
-        let answer = read_some(&mut self.machine.runtime().stdin(), room);
-        self.machine.on_line(answer)
+        self.machine.input(room)
     }
 
     fn give(&mut self, line: u32, piece: &[u8]) -> Result<usize, Failed> {
-        let answer = if line == 0 {
-            write_some(&mut self.machine.runtime().stdout(), piece)
-        } else {
-            Err(Failed)
-        };
-        self.machine.on_line(answer)
+        if line != 0 {
+            return self.machine.on_line(Err(Failed));
+        }
+        self.machine.output(piece)
     }
 
     fn shut(&mut self, _line: u32) {}
@@ -111,7 +116,7 @@ impl Host for PipeHost {
 #[cfg(test)]
 mod tests {
     use super::PipeHost;
-    use crate::{Host, Purpose};
+    use crate::{Host, NameFault, Purpose};
     use std::fs;
     use std::rt::HostRuntime;
     use std::test::Fail;
@@ -149,6 +154,20 @@ mod tests {
         assert_eq!(rt; host.machine.faults(), [1, 1, 1, 0, 1]);
         fs::remove_file(&rt, "edge-of-kms-host.0")?;
         fs::remove_file(&rt, "edge-of-kms-host.1")?;
+        Ok(())
+    }
+
+    // Where a folder has one of a store's names, or the name itself, nothing is made.
+    #[test]
+    fn a_folder_is_no_store(rt: HostRuntime) -> Result<(), Fail> {
+        let mut host = PipeHost::new(rt);
+        fs::create_dir(&rt, "folder-of-kms-host.1")?;
+        assert!(rt; host.attach("folder-of-kms-host") == Err(NameFault::Failed));
+        assert!(rt; host.attach("folder-of-kms-host.1") == Err(NameFault::Failed));
+        assert!(rt; fs::metadata(&rt, "folder-of-kms-host.0").is_err());
+        assert!(rt; fs::metadata(&rt, "folder-of-kms-host.1.0").is_err());
+        assert!(rt; host.machine.faults() == [0, 2, 0, 0, 0]);
+        fs::remove_dir(&rt, "folder-of-kms-host.1")?;
         Ok(())
     }
 }
