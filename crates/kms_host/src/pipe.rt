@@ -121,7 +121,7 @@ mod tests {
     use std::rt::HostRuntime;
     use std::test::Fail;
 
-    // Without standard streams: the clock runs behind 2024-01-01, no other line comes, one is at its end, and nothing goes
+    // Without standard streams: the clock runs after 2024-01-01, no other line comes, one is at its end, and nothing goes
     // to it. A store keeps what is written to it, is open once, and can be named again.
     #[test]
     fn the_edge_answers(rt: HostRuntime) -> Result<(), Fail> {

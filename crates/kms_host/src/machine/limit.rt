@@ -9,7 +9,7 @@ const LIMITS: &str = "/proc/self/limits";
 /// How the line of the limit begins. The limit in force follows, as a number of bytes or as the word `unlimited`.
 const LINE: &str = "Max file size";
 
-/// The greatest length in bytes that this process may give to a file. Where a write would begin behind it the system ends
+/// The greatest length in bytes that this process may give to a file. Where a write would begin after it the system ends
 /// the process by a signal, so it has to be known before.
 #[derive(Clone, Copy)]
 pub struct FileLimit {
@@ -57,7 +57,7 @@ fn limit_in(lines: &[u8]) -> u64 {
     u64::MAX
 }
 
-// The number with which a text begins, behind its spaces.
+// The number with which a text begins, after its spaces.
 fn first_number(text: &str) -> u64 {
     match text.split_whitespace().next() {
         Some(word) => word.parse::<u64>().unwrap_or(u64::MAX),

@@ -88,7 +88,7 @@ fn wrote_not(alloc: Global, file: u8, at: u64, piece: &[u8], left: &[u8]) -> Res
     Ok(Call::OnFile(file, FileCall::Wrote(at, piece, Some(left))))
 }
 
-// A write of so many bytes at a place would end at the limit of a file's length or behind it.
+// A write of so many bytes at a place would end at the limit of a file's length or after it.
 fn is_too_long(at: u64, length: usize) -> bool
     ensures { result ≡ nat_le (2 ^ 62) (at + length) }
 {
