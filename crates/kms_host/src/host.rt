@@ -12,6 +12,9 @@ ghost use Rattle.kms_host.specs.declared.call.Count.TheVariants as counts;
 
 use crate::{Failed, NameFault, Purpose};
 
+/// A file's length in bytes is below this.
+pub(crate) const LENGTH_LIMIT: u64 = 1 << 62;
+
 /// The outside of the key manager: key files, the two files of a store, numbered lines that bytes come from and go to,
 /// a clock, and random bytes.
 ///

@@ -115,10 +115,8 @@ impl Host for NetHost {
         ensures listens { OnOk result (is_some self.new.port ≡ true) }
         ensures err { OnErr result (self.new.port ≡ self.old.port) }
     {
-        match self
-            .machine
-            .listening(listener_at(self.machine.runtime(), address))
-        {
+        let answer = listener_at(self.machine.runtime(), address);
+        match self.machine.listening(answer) {
             Ok(listener) => {
                 self.listener = Some(listener);
                 Ok(())

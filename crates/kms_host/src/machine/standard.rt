@@ -6,8 +6,7 @@ use crate::machine::limit::FileLimit;
 use crate::machine::stream::{read_some, write_some};
 use std::fs::File;
 use std::io::Write;
-use std::os::fd::{AsFd, AsRawFd, IntoRawFd, OwnedFd};
-use std::process::ChildStdin;
+use std::os::fd::{AsRawFd, IntoRawFd};
 use std::rt::HostRuntime;
 
 /// Where the system shows what standard output and standard error are open on.
@@ -16,14 +15,10 @@ const OUTPUT: &str = "/proc/self/fd/1";
 const ERROR: &str = "/proc/self/fd/2";
 
 /// The standard streams. The numbers 0, 1 and 2 belong to them for the life of the process, also where it was started
-/// without some of them: then each call on the missing one fails.
-///
-/// Output goes through a second descriptor of the same stream, of the type that writes without a signal (SIGPIPE) where
-/// nobody reads.
+/// without some of them: then each call on the missing one fails. Where nobody reads what is written the call fails too,
+/// since the toolchain's start of a program has the signal for that (SIGPIPE) ignored.
 #[derive(Drop)]
 pub struct Streams {
-    output: ChildStdin,
-    error: ChildStdin,
     limit: FileLimit,
 }
 
@@ -33,8 +28,6 @@ impl Streams {
     pub fn open(rt: HostRuntime) -> Result<Streams, Failed> {
         hold_numbers(rt)?;
         Ok(Streams {
-            output: ChildStdin::from(second(&rt.stdout())?),
-            error: ChildStdin::from(second(&rt.stderr())?),
             limit: FileLimit::of_process(rt),
         })
     }
@@ -54,14 +47,13 @@ impl Streams {
         if !piece.is_empty() && self.limit.is_reached_by(rt, OUTPUT) {
             return Err(Failed);
         }
-        let mut output = &self.output;
-        write_some(&mut output, piece)
+        write_some(&mut rt.stdout(), piece)
     }
 
     /// Writes a line to standard error. It is lost where that can't be.
     pub fn tell(&self, rt: HostRuntime, line: &[u8]) {
         if !self.limit.is_reached_by(rt, ERROR) {
-            let _ = (&self.error).write_all(line);
+            let _ = rt.stderr().write_all(line);
         }
     }
 }
@@ -79,12 +71,4 @@ fn hold_numbers(rt: HostRuntime) -> Result<(), Failed> {
         }
     }
     Err(Failed)
-}
-
-// A second descriptor of a stream. Its number is above 2.
-fn second<S: AsFd>(stream: &S) -> Result<OwnedFd, Failed> {
-    match stream.as_fd().try_clone_to_owned() {
-        Ok(second) => Ok(second),
-        Err(_) => Err(Failed),
-    }
 }

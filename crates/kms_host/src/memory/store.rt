@@ -7,8 +7,9 @@ ghost use Rattle.kms_host.specs.Recording.{NotesOn, Counts};
 ghost use Rattle.kms_host.specs.declared.call.Call.TheVariants as calls;
 ghost use Rattle.kms_host.specs.declared.call.FileCall.TheVariants as on;
 
+use crate::host::LENGTH_LIMIT;
 use crate::memory::counter::{Counter, count_fault};
-use crate::memory::file::{File, LENGTH_LIMIT, Written, fill_from};
+use crate::memory::file::{File, Written, fill_from};
 use crate::memory::log::Log;
 use crate::{Bytes, Call, Failed, FileCall, NoMemory};
 use std::alloc::Global;
