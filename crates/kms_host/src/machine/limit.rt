@@ -1,5 +1,5 @@
 // The greatest length that the system lets this process give to a file.
-use crate::pipe::files::read_front;
+use crate::machine::files::read_front;
 use std::rt::HostRuntime;
 use std::{fs, str};
 
@@ -9,7 +9,7 @@ const LIMITS: &str = "/proc/self/limits";
 /// How the line of the limit begins. The limit in force follows, as a number of bytes or as the word `unlimited`.
 const LINE: &str = "Max file size";
 
-/// The greatest length in bytes that this process may give to a file. Where a write would begin behind it the system ends
+/// The greatest length in bytes that this process may give to a file. Where a write would begin after it the system ends
 /// the process by a signal, so it has to be known before.
 #[derive(Clone, Copy)]
 pub struct FileLimit {
@@ -45,7 +45,7 @@ impl FileLimit {
 }
 
 // The limit that these lines say, in bytes: the greatest number where they say none.
-pub fn limit_in(lines: &[u8]) -> u64 {
+fn limit_in(lines: &[u8]) -> u64 {
     let Ok(text) = str::from_utf8(lines) else {
         return u64::MAX;
     };
@@ -57,10 +57,25 @@ pub fn limit_in(lines: &[u8]) -> u64 {
     u64::MAX
 }
 
-// The number with which a text begins, behind its spaces.
+// The number with which a text begins, after its spaces.
 fn first_number(text: &str) -> u64 {
     match text.split_whitespace().next() {
         Some(word) => word.parse::<u64>().unwrap_or(u64::MAX),
         None => u64::MAX,
+    }
+}
+
+#[cfg(test)]
+mod tests {
+    use super::limit_in;
+    use std::rt::HostRuntime;
+
+    #[test]
+    fn the_limit_in_force_is_read(rt: HostRuntime) {
+        let lines =
+            b"Limit            Soft Limit  Hard Limit  Units\nMax cpu time     7           unlimited   seconds\nMax file size    1024        2048        bytes\n";
+        assert!(rt; limit_in(lines) == 1024);
+        assert!(rt; limit_in(b"Max file size    unlimited   unlimited   bytes\n") == u64::MAX);
+        assert!(rt; limit_in(b"") == u64::MAX);
     }
 }

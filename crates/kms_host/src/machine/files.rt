@@ -1,7 +1,8 @@
 // The files of a store, and key files, on the system's disk.
 ghost use Rattle.std.specs.Prelude.{◌≤◌, ◌<◌, ◌+◌, ◌^◌, length, IfOk, OnOk};
 
-use crate::pipe::limit::FileLimit;
+use crate::host::LENGTH_LIMIT;
+use crate::machine::limit::FileLimit;
 use crate::{Failed, NameFault};
 use std::fs;
 use std::fs::{File, OpenFile, OpenOptions};
@@ -9,9 +10,6 @@ use std::io::ErrorKind;
 use std::os::unix::fs::FileExt;
 use std::path::Path;
 use std::rt::HostRuntime;
-
-/// A file's length in bytes is below this.
-const LENGTH_LIMIT: u64 = 1 << 62;
 
 /// The two files of a store, open for reading and writing. As long as they are open no other process can open them here.
 #[derive(Drop)]
@@ -102,9 +100,9 @@ impl StoreFiles {
         }
     }
 
-    /// Brings a file and its length to the disk (`fsync`).
+    /// Brings a file's bytes and its length to the disk (`fdatasync`).
     pub fn sync(&self, file: u8) -> Result<(), Failed> {
-        match self.file(file).sync_all() {
+        match self.file(file).sync_data() {
             Ok(()) => Ok(()),
             Err(_) => Err(Failed),
         }

@@ -1,13 +1,13 @@
-// Standard input, output and error, and the system's clock.
+// Standard input, output and error.
 ghost use Rattle.std.specs.Prelude.{◌≤◌, ◌<◌, length, IfOk};
 
 use crate::Failed;
-use crate::pipe::limit::FileLimit;
+use crate::machine::limit::FileLimit;
+use crate::machine::stream::{read_some, write_some};
 use std::fs::File;
-use std::io::{ErrorKind, Read, Write};
+use std::io::Write;
 use std::os::fd::{AsRawFd, IntoRawFd};
 use std::rt::HostRuntime;
-use std::time::{SystemTime, UNIX_EPOCH};
 
 /// Where the system shows what standard output and standard error are open on.
 const OUTPUT: &str = "/proc/self/fd/1";
@@ -32,43 +32,22 @@ impl Streams {
         })
     }
 
-    /// Reads what is there, again where a signal came in between.
-    pub fn read_some(&self, rt: HostRuntime, room: &mut [u8]) -> Result<usize, Failed>
-        ensures { IfOk result (λ n. n ≤ length room.new) }
+    /// Reads what is there of standard input.
+    pub fn read(&self, rt: HostRuntime, buffer: &mut [u8]) -> Result<usize, Failed>
+        ensures { IfOk result (λ n. n ≤ length buffer.new) }
     {
-        for _ in 0..u64::MAX {
-            match rt.stdin().read(room) {
-                Ok(count) => return Ok(count),
-                Err(error) if error.kind() == ErrorKind::Interrupted => {}
-                Err(_) => return Err(Failed),
-            }
-        }
-        Err(Failed)
+        read_some(&mut rt.stdin(), buffer)
     }
 
-    /// Writes a front of the piece, again where a signal came in between.
-    pub fn write_some(&self, rt: HostRuntime, line: u32, piece: &[u8]) -> Result<usize, Failed>
+    /// Writes a front of the piece to standard output.
+    pub fn write(&self, rt: HostRuntime, piece: &[u8]) -> Result<usize, Failed>
         ensures bound { IfOk result (λ n. n ≤ length piece.now) }
         ensures some { IfOk result (λ n. 0 < length piece.now → 0 < n) }
     {
-        if line != 0 {
+        if !piece.is_empty() && self.limit.is_reached_by(rt, OUTPUT) {
             return Err(Failed);
         }
-        if piece.is_empty() {
-            return Ok(0);
-        }
-        if self.limit.is_reached_by(rt, OUTPUT) {
-            return Err(Failed);
-        }
-        for _ in 0..u64::MAX {
-            match rt.stdout().write(piece) {
-                Ok(0) => return Err(Failed),
-                Ok(count) => return Ok(count),
-                Err(error) if error.kind() == ErrorKind::Interrupted => {}
-                Err(_) => return Err(Failed),
-            }
-        }
-        Err(Failed)
+        write_some(&mut rt.stdout(), piece)
     }
 
     /// Writes a line to standard error. It is lost where that can't be.
@@ -92,15 +71,4 @@ fn hold_numbers(rt: HostRuntime) -> Result<(), Failed> {
         }
     }
     Err(Failed)
-}
-
-/// The system's time in seconds. A clock that can't be read, or is set before 1970, tells 0.
-pub fn seconds(rt: HostRuntime) -> u64 {
-    let Ok(time) = SystemTime::now(&rt) else {
-        return 0;
-    };
-    match time.duration_since(UNIX_EPOCH) {
-        Ok(since) => since.as_secs(),
-        Err(_) => 0,
-    }
 }
