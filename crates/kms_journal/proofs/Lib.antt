@@ -15,6 +15,7 @@ pub mod OpeningLaws
 pub mod PlacedLaws
 pub mod ReadingLaws
 pub mod RecordLaws
+pub mod NewestLaws
 mod Refused
 pub mod RepairLaws
 pub mod RestLaws

@@ -8,9 +8,9 @@ use Rattle.kms_host.specs.Disk.{reads}
 use Rattle.kms_host.specs.Moment.{Throughout}
 use Rattle.kms_journal.specs.Ahead.{IsAhead}
 use Rattle.kms_journal.specs.Device.{IsUntouched}
-use Rattle.kms_journal.specs.Gather.{ReadsPart, AreGathered}
+use Rattle.kms_journal.specs.Gather.{ReadsPart, AreRecords}
 use Rattle.kms_journal.specs.Standing.{Records, is_set, record_len, record_in, is_record_whole, stopped, with_item, records_from}
-use Rattle.kms_journal.specs.Walk.{IsNext, Looks, records_at, StopsAs}
+use Rattle.kms_journal.specs.Walk.{IsNext, ReadsNext, records_at, StopsAs}
 use Rattle.kms_journal.specs.declared.walk.Next.{Next}
 use Rattle.kms_journal.specs.declared.walk.Next.TheVariants.{Clear, Broken, Whole}
 use Rattle.kms_journal.specs.declared.walk.Stop.{Stop}
@@ -62,7 +62,7 @@ pub walks_nothing : (file size start : ℕ) (first : List ℕ) (was : History) �
 walks_nothing file size start first was = record { throughout = no_read was; records = λ long a. refl; ahead = λ long a. a }
 
 module _ {E : Type 0} (file size start place : ℕ) (first held new : List ℕ) (items : List (ℕ × List ℕ)) (next : Next) (was mid now : History) (so_far : WalksSoFar file size start place first held items was mid)
-    (look : Looks {E = E} file place size held new (Ok next) mid now) where
+    (look : ReadsNext {E = E} file place size held new (Ok next) mid now) where
   pub looks_through : Throughout (IsUntouched was) was now
   looks_through = reading_then was mid now so_far.throughout look.throughout
 
@@ -105,9 +105,9 @@ pub stops_as : (bytes : List ℕ) (start place : ℕ) (is_whole : Bool) (items :
 stops_as bytes start place is_whole items is = record { at = sym (ap (λ (r : Records). r.stop) is); is_whole = sym (ap (λ (r : Records). r.is_whole) is) }
 
 -- they are all that there are
-pub all_gathered : (bytes : List ℕ) (start place : ℕ) (is_whole : Bool) (items : List (ℕ × List ℕ)) → records_at bytes start ≡ joined items (stopped place is_whole)
-    → let stop : Stop = record { at = place; is_whole = is_whole } in AreGathered bytes start items stop
-all_gathered bytes start place is_whole items is = record {
+pub all_records : (bytes : List ℕ) (start place : ℕ) (is_whole : Bool) (items : List (ℕ × List ℕ)) → records_at bytes start ≡ joined items (stopped place is_whole)
+    → let stop : Stop = record { at = place; is_whole = is_whole } in AreRecords bytes start items stop
+all_records bytes start place is_whole items is = record {
   items = sym (ap (λ (r : Records). r.items) is ∙ append-nil items);
   stop = stops_as bytes start place is_whole items is;
 }

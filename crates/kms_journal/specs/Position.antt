@@ -16,7 +16,7 @@ pub record Position : Type 0 where
   pub tag : ℕ
   pub ids : ℕ
   pub steps : ℕ
-  -- the place of the commit mark behind the snapshot
+  -- the place of the commit mark after the snapshot
   pub start : ℕ
   -- the place of the last commit mark
   pub end : ℕ

@@ -16,7 +16,7 @@ IsNext rest Clear = is_set rest ≡ false
 IsNext rest Broken = (is_set rest ≡ true) × (is_record_whole rest ≡ false)
 IsNext rest (Whole size) = (is_set rest ≡ true) × (is_record_whole rest ≡ true) × (record_len rest ≡ size)
 
--- a record lies within so many bytes, with a commit mark behind it
+-- a record lies within so many bytes, with a commit mark after it
 abbrev pub IsInside : ℕ → Next → Type 0
 IsInside left Clear = Unit {0}
 IsInside left Broken = Unit {0}
@@ -24,7 +24,7 @@ IsInside left (Whole size) = 5 + size < left
 
 -- The file is read at most. With the bytes from the place on in the buffer, what stands there is found, and the buffer
 -- has those five bytes further on.
-pub record Looks {E : Type 0} (file place size : ℕ) (old new : List ℕ) (result : Result Next E) (was now : History) : Type 0 where
+pub record ReadsNext {E : Type 0} (file place size : ℕ) (old new : List ℕ) (result : Result Next E) (was now : History) : Type 0 where
   pub throughout : Throughout (IsUntouched was) was now
   pub found : IfOk result (λ next. size ≡ length (reads file was) → IsAhead file place old was → IsNext (drop place (reads file was)) next)
   pub ahead : OnOk result (IsAhead file place old was → IsAhead file (place + 5) new was)

@@ -3,7 +3,7 @@ ghost use Rattle.std.specs.Prelude.{◌≡◌, ◌+◌, ◌<◌, ◌≤◌, ◌^
 ghost use Rattle.kms_host.specs.History.{Tells, WhereTold, Stops};
 ghost use Rattle.kms_host.specs.Store.{IsAttached};
 ghost use Rattle.kms_journal.specs.Device.{HasStoreCause};
-ghost use Rattle.kms_journal.specs.Gather.{ReadsPart, Gathered, ReadsChain};
+ghost use Rattle.kms_journal.specs.Gather.{ReadsPart, ReadsRecords, ReadsChain};
 ghost use Rattle.kms_journal.specs.declared.fault.GatherFault.TheVariants as faults;
 ghost use Rattle.kms_journal.specs.Fault.{Fails, is_failed_gathering};
 
@@ -61,7 +61,7 @@ fn gather<H: Host>(
     requires attached { WhereTold (H.history host.old) IsAttached }
     requires within { start < size }
     requires most { size < 2 ^ 62 }
-    ensures told { Tells (H.history host.old) (H.history host.new) (Gathered file start size buffer.old result) }
+    ensures told { Tells (H.history host.old) (H.history host.new) (ReadsRecords file start size buffer.old result) }
     ensures within { IfOk result (λ found. (start ≤ found.1.at) × (found.1.at < size)) }
     ensures cause { HasStoreCause faults.StoreFault (H.faults host.old) (H.faults host.new) result }
     ensures failed { Tells (H.history host.old) (H.history host.new) (Fails (is_failed_gathering result)) }
@@ -95,7 +95,7 @@ fn gather<H: Host>(
 }
 
 /// What the store stands for whose current file this is, and where its records stop. The file is read in pieces through
-/// the buffer, each byte behind the header once.
+/// the buffer, each byte after the header once.
 pub fn read_chain<H: Host>(
     alloc: Global,
     host: &mut H,

@@ -68,7 +68,7 @@ impl Journal {
         self.header.generation
     }
 
-    /// How many bytes the records take: those behind the commit mark that stands behind the snapshot.
+    /// How many bytes the records take: those after the commit mark that stands after the snapshot.
     pub fn records(&self) -> u64
         ensures { result ≡ self.now.end - self.now.start }
     {
@@ -106,7 +106,7 @@ impl Journal {
     }
 
     /// Adds a record. `framed` is its length in 4 bytes, big-endian, its bytes, and a clear commit mark, a 0. It is
-    /// written behind the last commit mark and synced, and then that commit mark is set by a write of its own and
+    /// written after the last commit mark and synced, and then that commit mark is set by a write of its own and
     /// synced.
     ///
     /// From an Ok on nothing is pending on the current file, and if nothing was pending on the other one before the

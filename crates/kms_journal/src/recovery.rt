@@ -1,5 +1,5 @@
 // Opening a store that a stop may have left in the middle of anything.
-ghost use Rattle.std.specs.Prelude.{◌≡◌, ◌+◌, ◌<◌, ◌≤◌, ◌^◌, [], IfOk, is_err};
+ghost use Rattle.std.specs.Prelude.{◌≡◌, ◌+◌, ◌<◌, ◌≤◌, ◌^◌, [], IfOk, is_err, false};
 ghost use Rattle.kms_host.specs.Faults.{HasCause};
 ghost use Rattle.kms_host.specs.History.{Tells, WhereTold, Stops};
 ghost use Rattle.kms_host.specs.Store.{IsAttached};
@@ -22,8 +22,8 @@ use crate::{Bodies, Chain, JournalFault, Place, StoreFault};
 use kms_host::{Bytes, Host, NoMemory};
 use std::alloc::Global;
 
-// Cuts a file behind its first commit mark that isn't set, and clears that mark. The cut has to be on the disk first: a
-// mark that a stop left set would bring back what stood behind it.
+// Cuts a file after its first commit mark that isn't set, and clears that mark. The cut has to be on the disk first: a
+// mark that a stop left set would bring back what stood after it.
 fn repair<H: Host>(host: &mut H, file: u8, end: u64) -> Result<(), StoreFault>
     requires file { file < 2 }
     requires most { end < 2 ^ 62 }
@@ -82,8 +82,8 @@ fn check<H: Host>(
     Err(JournalFault::Damaged(Place::Body { file, at: stop.at }, chain))
 }
 
-/// Opens a store: reads the current file up to its first commit mark that isn't set, cuts the file behind it, syncs,
-/// clears it, and syncs. The file is read in pieces of 65,536 bytes at most, each byte behind the header once.
+/// Opens a store: reads the current file up to its first commit mark that isn't set, cuts the file after it, syncs,
+/// clears it, and syncs. The file is read in pieces of 65,536 bytes at most, each byte after the header once.
 ///
 /// Answers NoStore exactly where no file has its first commit mark set before a whole header, and Damaged where a
 /// commit mark is set before a record that isn't whole. Neither changes anything, nor does being out of memory, and the
@@ -92,6 +92,7 @@ fn check<H: Host>(
 pub fn recover<H: Host>(alloc: Global, host: &mut H) -> Result<Journal, JournalFault>
     requires { WhereTold (H.history host.old) IsAttached }
     ensures told { Tells (H.history host.old) (H.history host.new) (Opens result) }
+    ensures works { IfOk result (λ journal. journal.failed ≡ false) }
     ensures cause { HasStoreCause faults.StoreFault (H.faults host.old) (H.faults host.new) result }
     ensures failed { Tells (H.history host.old) (H.history host.new) (Fails (is_failed_opening result)) }
     ensures stops { Stops (H.wanted host.old) (H.wanted host.new) (H.history host.old) (H.history host.new) }

@@ -228,7 +228,7 @@ fn a_commit_stopped_at_each_call(rt: HostRuntime) -> Result<(), Fail> {
     Ok(())
 }
 
-// A store with one record, then a commit mark that isn't set, and behind it what looks like a record.
+// A store with one record, then a commit mark that isn't set, and after it what looks like a record.
 static STOPPED: [u8; 13] = [1, 0, 0, 0, 1, 5, 77, 0, 0, 0, 1, 6, 1];
 
 // Whether an attached store opens.
@@ -238,7 +238,7 @@ fn opens<H: Host>(alloc: Global, host: &mut H) -> bool
     recover(alloc, host).is_ok()
 }
 
-// Opening this file 0, stopped behind so many calls, leaves one record; it takes nine calls.
+// Opening this file 0, stopped after so many calls, leaves one record; it takes nine calls.
 fn keeps_the_record(alloc: Global, file: &[u8], passing: u64) -> Result<bool, NoMemory> {
     let mut host = attached(alloc, file, &[])?;
     host.fuse(passing);

@@ -4,7 +4,7 @@ ghost use Rattle.kms_host.specs.Faults.{HasCause};
 ghost use Rattle.kms_host.specs.History.{Tells, WhereTold, Stops};
 ghost use Rattle.kms_host.specs.Store.{IsAttached};
 ghost use Rattle.kms_host.specs.declared.call.Count.TheVariants as counts;
-ghost use Rattle.kms_journal.specs.Walk.{IsNext, IsInside, Looks};
+ghost use Rattle.kms_journal.specs.Walk.{IsNext, IsInside, ReadsNext};
 ghost use Rattle.kms_journal.specs.Fault.{Fails};
 
 use crate::buffer::Buffer;
@@ -15,16 +15,16 @@ use kms_host::{Failed, Host};
 pub enum Next {
     /// It isn't set.
     Clear,
-    /// It is set, and no whole record stands behind it.
+    /// It is set, and no whole record stands after it.
     Broken,
-    /// A record of this length, in bytes, stands behind it.
+    /// A record of this length, in bytes, stands after it.
     Whole(u32),
 }
 
 /// Where the records of a file stop.
 #[derive(Clone, Copy)]
 pub struct Stop {
-    /// The place of the first commit mark that isn't set, or that has no whole record behind it.
+    /// The place of the first commit mark that isn't set, or that has no whole record after it.
     pub at: u64,
     /// It is one that isn't set.
     pub is_whole: bool,
@@ -49,7 +49,7 @@ fn next_in(head: &[u8], left: u64) -> Next
     }
 }
 
-/// What stands at the commit mark at a place of a file of this length. The buffer goes on behind it, and behind the four
+/// What stands at the commit mark at a place of a file of this length. The buffer goes on after it, and after the four
 /// bytes that follow.
 pub fn look<H: Host>(
     host: &mut H,
@@ -62,7 +62,7 @@ pub fn look<H: Host>(
     requires attached { WhereTold (H.history host.old) IsAttached }
     requires within { place ≤ size }
     requires most { size < 2 ^ 62 }
-    ensures told { Tells (H.history host.old) (H.history host.new) (Looks file place size buffer.old buffer.new result) }
+    ensures told { Tells (H.history host.old) (H.history host.new) (ReadsNext file place size buffer.old buffer.new result) }
     ensures within { IfOk result (IsInside (size - place)) }
     ensures cause { HasCause counts.Store (H.faults host.old) (H.faults host.new) result }
     ensures failed { Tells (H.history host.old) (H.history host.new) (Fails (is_err result)) }

@@ -8,11 +8,11 @@ use Rattle.kms_host.specs.declared.call.Failed.{Failed}
 use Rattle.kms_host.proofs.FaultLaws.{stops_then}
 use Rattle.kms_host.proofs.Moments.{tells_then, known_with_told}
 use Rattle.kms_journal.specs.Device.{IsUntouched}
-use Rattle.kms_journal.specs.Walk.{IsInside, Looks}
+use Rattle.kms_journal.specs.Walk.{IsInside, ReadsNext}
 use Rattle.kms_journal.specs.declared.walk.Next.TheVariants.{Clear, Broken, Whole}
 use Rattle.kms_journal.proofs.FaultLaws.{later_then, fails_then}
 use Rattle.kms_journal.proofs.ReadingLaws.{reading_then, attached_after}
-use Rattle.kms_journal.proofs.WalkLaws.{WalksSoFar, walks_on, walks_to, all_gathered, clear_at, broken_at}
+use Rattle.kms_journal.proofs.WalkLaws.{WalksSoFar, walks_on, walks_to, all_records, clear_at, broken_at}
 use Rattle.kms_journal.proofs.gather.gather.Goals as goal
 
 pub returns-in_err-look-clause-told : goal.returns-in_err-look-clause-told
@@ -28,7 +28,7 @@ returns-in-Clear-clause-told g c =
     (λ was mid now so_far f. record {
       throughout = reading_then was mid now so_far.throughout f.throughout;
       found = λ long a.
-          all_gathered (reads c.args.file was) c.args.start c.records.place true c.records.bodies
+          all_records (reads c.args.file was) c.args.start c.records.place true c.records.bodies
           (walks_to c.args.file c.args.size c.args.start c.records.place c.args.buffer.now c.records.buffer c.look.new.buffer c.records.bodies c.in_ok-look.field-0 was mid now so_far f
           Clear true c.in-Clear.is (λ bytes is. clear_at bytes c.records.place is) long a);
     })
@@ -39,7 +39,7 @@ returns-in-Broken-clause-told g c =
     (λ was mid now so_far f. record {
       throughout = reading_then was mid now so_far.throughout f.throughout;
       found = λ long a.
-          all_gathered (reads c.args.file was) c.args.start c.records.place false c.records.bodies
+          all_records (reads c.args.file was) c.args.start c.records.place false c.records.bodies
           (walks_to c.args.file c.args.size c.args.start c.records.place c.args.buffer.now c.records.buffer c.look.new.buffer c.records.bodies c.in_ok-look.field-0 was mid now so_far f
           Broken false c.in-Broken.is (λ bytes is. broken_at bytes c.records.place is) long a);
     })
@@ -79,7 +79,7 @@ records-preserved g c =
     let within : IsInside (size - place) (Whole n) = subst (IsInside (size - place)) whole c.in_ok-look.ensures.within in
     let inside : place + (5 + n) < size = omega (arith, within, c.records.invariant.within) in
     let looked = tells_then
-    (λ was now. (mid : History) × WalksSoFar file size start place first held c.records.bodies was mid × Looks {E = Failed} file place size held new (Ok next) mid now)
+    (λ was now. (mid : History) × WalksSoFar file size start place first held c.records.bodies was mid × ReadsNext {E = Failed} file place size held new (Ok next) mid now)
     c.records.invariant.told c.in_ok-look.ensures.told (λ was mid now so_far f. (mid, so_far, f)) in
     record {
       told = tells_then _ looked c.in_ok-body-in-Whole.ensures.told
