@@ -1,3 +1,5 @@
+pub mod AheadLaws
+pub mod BufferLaws
 pub mod CommitLaws
 pub mod CreateLaws
 pub mod CurrentLaws
@@ -13,6 +15,7 @@ pub mod OpeningLaws
 pub mod PlacedLaws
 pub mod ReadingLaws
 pub mod RecordLaws
+pub mod NewestLaws
 mod Refused
 pub mod RepairLaws
 pub mod RestLaws

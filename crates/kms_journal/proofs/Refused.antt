@@ -9,7 +9,7 @@ use Rattle.kms_host.specs.Moment.{Throughout}
 use Rattle.kms_host.specs.declared.call.Call.{Call}
 use Rattle.kms_host.specs.declared.call.Call.TheVariants.{OnFile}
 use Rattle.kms_host.specs.declared.call.Count.TheVariants as counts
-use Rattle.kms_host.specs.declared.call.FileCall.TheVariants.{Wrote, CutTo, Synced}
+use Rattle.kms_host.specs.declared.call.FileCall.TheVariants.{Measured, Wrote, CutTo, Synced}
 use Rattle.std.proofs.lemmas.List.{get_or_append_left, get_or-append_right}
 use Rattle.kms_host.proofs.DiskLaws.{is_image}
 use Rattle.kms_host.proofs.Moments.{at_last}
@@ -18,7 +18,7 @@ use Rattle.kms_journal.specs.Create.{fresh, Creates}
 use Rattle.kms_journal.specs.Device.{IsQuietStore, HasStoreCause}
 use Rattle.kms_journal.specs.Fault.{Fails}
 use Rattle.kms_journal.specs.Header.{is_header, is_in_range, snapshot_len, letters}
-use Rattle.kms_journal.specs.Position.{Position}
+use Rattle.kms_journal.specs.Position.{Position, IsPlaced}
 use Rattle.kms_journal.specs.Recovery.{KeepsStanding, Opens}
 use Rattle.kms_journal.specs.Standing.{Standing, records_from, standing_from, standing, standing_of, with_framed}
 use Rattle.kms_journal.specs.declared.fault.JournalFault.TheVariants as opening
@@ -108,12 +108,16 @@ pub mark_not_synced : (old new : Position) → Commits {T = Unit {0}} {E = Store
     → ⊥
 mark_not_synced old new c =
     let range : ℕ × ℕ = (58, 59) in
-    let none : range ∷ [] ≡ [] = ap (λ (d : Disk). d.ranges) (c.quiet (quiet_at_first (store (0 ∷ []))) 0 (lit< tt)) in cc
+    let none : range ∷ [] ≡ [] = ap (λ (d : Disk). d.ranges) c.rests in cc
 
 -- It is acknowledged and does nothing.
 pub does_nothing : (old new : Position) → Commits {T = Unit {0}} {E = StoreFault} old new (framed 7) (Ok tt) (fresh 5) (with_file (store (0 ∷ [])) []) (with_file (store (0 ∷ [])) []) → ⊥
 unfolding byte_of first_byte
 does_nothing old new c = clash 0 7 (ap byte_of (sym stands ∙ c.placed.current)) (lit< tt)
+
+-- It goes on with a journal that has failed, which is placed nowhere.
+pub goes_on_after_a_fault : (p : Position) (h : History) (s : Standing) → p.failed ≡ true → IsPlaced p h s → ⊥
+goes_on_after_a_fault p h s failed placed = let e : false ≡ true = sym (ap (λ (q : Position). q.failed) placed.here) ∙ failed in cc
 
 -- A recovery.
 
@@ -177,6 +181,13 @@ fault_without_a_failed_call h f = omega (arith, f)
 
 pub failed_call_passed_over : Fails false (with_file (store (0 ∷ [])) []) (with_file (store (0 ∷ [])) (OnFile 0 (Synced false) ∷ [])) → ⊥
 failed_call_passed_over same = omega (arith, same)
+
+-- A sync that failed is tried again, or the file is looked at once more.
+pub sync_tried_again : Fails true (with_file (store (0 ∷ [])) []) (with_file (store (0 ∷ [])) (OnFile 0 (Synced false) ∷ OnFile 0 (Synced false) ∷ [])) → ⊥
+sync_tried_again f = omega (arith, f.1)
+
+pub looked_at_after_a_fault : Fails true (with_file (store (0 ∷ [])) []) (with_file (store (0 ∷ [])) (OnFile 0 (Measured (Some 59)) ∷ OnFile 0 (Synced false) ∷ [])) → ⊥
+looked_at_after_a_fault f = let e : false ≡ true = f.0 in cc
 
 -- Faults that no call had.
 pub fault_of_its_own : (f : Faults) → f.store < 2 ^ 64 - 1 → HasCause {T = Unit {0}} {E = StoreFault} counts.Store f f (Err record {}) → ⊥

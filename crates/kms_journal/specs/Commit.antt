@@ -26,7 +26,7 @@ pub record IsBeforeOrAfter (s : Standing) (framed : List ℕ) (was h : History) 
   pub others : others h ≡ others was
   pub syncs : syncs h.calls ≤ syncs was.calls + 2
 
--- The calls of a commit that was done, the newest first: the framed record is written behind the last commit mark and
+-- The calls of a commit that was done, the newest first: the framed record is written after the last commit mark and
 -- synced, and only then that commit mark is set by a write of its own and synced.
 abbrev pub commit_calls : ℕ → ℕ → List ℕ → List Call
 commit_calls file end framed =

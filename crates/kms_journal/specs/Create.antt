@@ -20,7 +20,7 @@ no_changes = 0 ∷ 0 ∷ 0 ∷ 0 ∷ 0 ∷ 0 ∷ 0 ∷ 0 ∷ []
 abbrev pub fresh : ℕ → Standing
 fresh tag = record { file = 0; generation = 1; tag = tag; ids = 0; steps = 0; snapshot = no_changes; records = []; stop = 58; is_whole = true }
 
--- The bytes behind the first commit mark of a fresh file 0: letters, version, generation, tag, no ids, no steps, the
+-- The bytes after the first commit mark of a fresh file 0: letters, version, generation, tag, no ids, no steps, the
 -- snapshot's length, the snapshot, and a clear commit mark.
 unfoldable pub fresh_rest : ℕ → List ℕ
 fresh_rest tag = letters ++ 1 ∷ (to_be_bytes w64 1 ++ to_be_bytes w64 tag ++ to_be_bytes w64 0 ++ to_be_bytes w64 0 ++ to_be_bytes w64 8 ++ no_changes ++ 0 ∷ [])

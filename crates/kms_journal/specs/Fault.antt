@@ -1,5 +1,5 @@
 -- Faults of a call as those of the call above, and what they say of the calls that were made.
-use Rattle.std.specs.Prelude.{◌≡◌, ◌+◌, List, [], ◌∷◌, Bool, true, false, Result, Ok, Err}
+use Rattle.std.specs.Prelude.{◌≡◌, ◌+◌, List, [], ◌∷◌, ◌++◌, Bool, true, false, Result, Ok, Err}
 use Rattle.kms_host.specs.History.{History}
 use Rattle.kms_host.specs.Store.{store_call_failed, failed_store_calls}
 use Rattle.kms_host.specs.declared.call.Call.{Call}
@@ -42,3 +42,8 @@ is_failed_creation (Ok x) = false
 is_failed_creation (Err creation.Exists) = false
 is_failed_creation (Err creation.StoreFault) = true
 is_failed_creation (Err creation.NoMemory) = false
+
+-- of these calls after the history, the newest first, none but the newest is one of the store that failed
+abbrev pub IsUnfailedBefore : History → List Call → Type 0
+IsUnfailedBefore was [] = Unit {0}
+IsUnfailedBefore was (c ∷ calls) = failed_store_calls (calls ++ was.calls) ≡ failed_store_calls was.calls

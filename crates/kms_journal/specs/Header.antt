@@ -8,7 +8,7 @@
 --      18      8  the tag of the store's ids, below 2^60
 --      26      8  how many ids were given, at most 2^62
 --      34      8  how many steps the snapshot stands for
---      42      8  the length of the snapshot, which stands behind the header
+--      42      8  the length of the snapshot, which stands after the header
 use Rattle.std.specs.Prelude.{ℕ, ◌^◌, List, [], ◌∷◌, take, drop, Bool, ◌==◌, ◌&&◌, nat_lt, nat_le, slice_index}
 use Rattle.std.specs.Int.{w64, from_be_bytes}
 use Rattle.std.specs.Str.{bytes_eq}

@@ -2,7 +2,7 @@
 --
 -- A file is its header, a snapshot, a commit mark, and then for each record its length in 4 bytes, its bytes, and the
 -- next commit mark. A commit mark is set where its byte is 1 and isn't the file's last. The records count up to the
--- first commit mark that isn't set, whatever stands behind it.
+-- first commit mark that isn't set, whatever stands after it.
 use Rattle.std.specs.Prelude.{ℕ, zero, suc, ◌+◌, List, [], ◌∷◌, ◌++◌, length, take, drop, Bool, true, false, ◌==◌, ◌&&◌, nat_lt, if◌then◌else◌, Option, Some, None}
 use Rattle.std.specs.Int.{w32, from_be_bytes}
 use Rattle.kms_journal.specs.Header.{number_in, is_header, is_in_range, snapshot_len}
@@ -17,7 +17,7 @@ pub record Standing : Type 0 where
   pub snapshot : List ℕ
   -- each with the place of the commit mark before it
   pub records : List (ℕ × List ℕ)
-  -- the place of the first commit mark that isn't set, or that has no whole record behind it
+  -- the place of the first commit mark that isn't set, or that has no whole record after it
   pub stop : ℕ
   -- it is one that isn't set
   pub is_whole : Bool
@@ -33,7 +33,7 @@ abbrev pub is_set : List ℕ → Bool
 is_set (mark ∷ next ∷ rest) = mark == 1
 is_set rest = false
 
--- behind it: the length of a record, and the record
+-- after it: the length of a record, and the record
 abbrev pub record_len : List ℕ → ℕ
 record_len rest = from_be_bytes w32 (take 4 (drop 1 rest))
 
@@ -99,7 +99,7 @@ newer (Some a) (Some b) = if nat_lt a.generation b.generation then Some b else S
 abbrev pub standing_of : List ℕ × List ℕ → Option Standing
 standing_of files = newer (standing 0 files.0) (standing 1 files.1)
 
--- with one record more behind the last, as the framed bytes have it
+-- with one record more after the last, as the framed bytes have it
 abbrev pub with_framed : Standing → List ℕ → Standing
 with_framed s framed = record {
   file = s.file;

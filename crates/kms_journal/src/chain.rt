@@ -60,6 +60,6 @@ pub struct Chain {
     pub steps: u64,
     /// The snapshot.
     pub base: Bytes,
-    /// The records behind it.
+    /// The records after it.
     pub bodies: Bodies,
 }

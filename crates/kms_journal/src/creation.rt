@@ -14,7 +14,7 @@ use crate::through::write_through;
 use crate::{CreateFault, StoreFault};
 use kms_host::Host;
 
-// The bytes of a fresh file behind its first commit mark: letters, version, generation, tag, the number of ids given,
+// The bytes of a fresh file after its first commit mark: letters, version, generation, tag, the number of ids given,
 // the number of steps, the snapshot's length, the snapshot, which is a number of no changes, and a clear commit mark.
 #[tactic(auto, unfolding(crate::specs::Create::fresh_rest, crate::specs::Header::letters))]
 fn fresh_rest(tag: u64) -> [u8; 58]
@@ -72,7 +72,7 @@ fn empty<H: Host>(host: &mut H, file: u8) -> Result<(), StoreFault>
 /// Creates a store in file 0, of generation 1, with this tag for its ids, a snapshot of nothing, and no records. Takes no
 /// memory.
 ///
-/// The file is made one clear commit mark and synced, what stands behind it is written and synced, and then the mark is
+/// The file is made one clear commit mark and synced, what stands after it is written and synced, and then the mark is
 /// set by a write of its own and synced. Wherever that stops, there is no store or the fresh one. Answers Exists exactly
 /// where there is a store already, and changes nothing then, and StoreFault exactly where a call on the store's files
 /// failed.
