@@ -129,7 +129,7 @@ module _ (p new : Position) (framed : List ℕ) (was : History) (s : Standing) (
       joined (IsBeforeOrAfter s framed was) was mid now st.during
       (throughout_weaker (IsWriting p.file p.end 1 mid) (IsBeforeOrAfter s framed was) mid now (λ q w. second_moment mid q st w) second)
 
-  ends : new ≡ (let q : Position = record p { end = p.end + length framed } in q) → (mid now : History) → IsStaged mid → IsWriting p.file p.end 1 mid now → disk p.file now ≡ at_rest (put (reads p.file mid) p.end (1 ∷ []))
+  ends : new ≡ (let q : Position = record p { end = p.end + length framed; chain = None } in q) → (mid now : History) → IsStaged mid → IsWriting p.file p.end 1 mid now → disk p.file now ≡ at_rest (put (reads p.file mid) p.end (1 ∷ []))
       → IsPlaced new now (with_framed s framed)
   ends moved mid now st last on_disk =
       let r = (ends_placed p was s lt placed).rests in
@@ -139,21 +139,23 @@ module _ (p new : Position) (framed : List ℕ) (was : History) (s : Standing) (
       let here : reads s.file now ≡ r.front ++ 1 ∷ framed = ap (λ (f : ℕ). reads f now) in_file ∙ read in
       let other : (g : ℕ) → p.file ≢ g → disk g now ≡ disk g was = λ g ne. last.other g ne ∙ st.other g ne in
       let same : others now ≡ others was = last.others ∙ st.others in
-      record {
+      subst (λ (q : Position). IsPlaced q now (with_framed s framed)) (sym moved)
+      (record {
         attached = still_attached was now same placed.attached;
         current = by_reads p.file was now s (with_framed s framed) lt placed.current in_file other refl
             (ap (standing p.file) read ∙ adds p.file p.end framed (reads p.file was) s r framed_ok);
         whole = placed.whole;
-        here = moved ∙ ap (λ (q : Position). record q { end = q.end + length framed }) placed.here;
+        here = ap (λ (q : Position). record q { end = q.end + length framed; chain = None }) placed.here;
+        read = tt;
         last = ap length here ∙ omega (arith, length-append r.front (1 ∷ framed), r.size, r.stop_is);
         clear = ap (λ (l : List ℕ). get_or l (s.stop + length framed) 0) here ∙ ap (λ (n : ℕ). get_or (r.front ++ 1 ∷ framed) (n + length framed) 0) r.stop_is
             ∙ last_clear p.file p.end framed (reads p.file was) s r framed_ok;
-      }
+      })
 
   pub second_fails : {T D E : Type 0} (d : D) (x : E) (mid now : History) → IsStaged mid → WritesThrough {T = T} {E = D} p.file p.end (1 ∷ []) (Err d) mid now → Commits {T = T} {E = E} p new framed (Err x) s was now
   second_fails d x mid now st w = record { throughout = both mid now st w.throughout; placed = tt; quiet = tt; rests = tt; calls = tt }
 
-  pub second_done : {T E : Type 0} (x : T) → new ≡ (let q : Position = record p { end = p.end + length framed } in q) → (mid now : History) → IsStaged mid → WritesThrough {T = T} {E = E} p.file p.end (1 ∷ []) (Ok x) mid now
+  pub second_done : {T E : Type 0} (x : T) → new ≡ (let q : Position = record p { end = p.end + length framed; chain = None } in q) → (mid now : History) → IsStaged mid → WritesThrough {T = T} {E = E} p.file p.end (1 ∷ []) (Ok x) mid now
       → Commits {T = T} {E = E} p new framed (Ok x) s was now
   second_done x moved mid now st w =
       let last = at_last (IsWriting p.file p.end 1 mid) mid now w.throughout in

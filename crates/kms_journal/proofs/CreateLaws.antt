@@ -231,6 +231,7 @@ module _ (tag : ℕ) (low : tag < 2 ^ 60) (was : History) where
               current = ap (λ (o : Option Standing). newer o (standing 1 (reads 1 now))) (ap (standing 0) read ∙ fresh_stands tag low) ∙ ap (newer (Some (fresh tag))) second;
               whole = refl;
               here = refl;
+              read = tt;
               last = ap length read ∙ rest_size;
               clear = ap (λ (l : List ℕ). get_or l 58 0) read ∙ rest_clear;
             },

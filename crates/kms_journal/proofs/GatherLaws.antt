@@ -1,34 +1,57 @@
 -- Bytes read in pieces.
-use Rattle.std.proofs.Common.{◌≡◌, ℕ, ◌+◌, ◌≤◌, List, [], ◌++◌, length, take, drop, sym, ◌∙◌, ap, arith, length-drop}
+use Rattle.std.proofs.Common.{◌≡◌, ℕ, ◌+◌, ◌-◌, ◌≤◌, ◌<◌, min, List, [], ◌++◌, length, take, drop, sym, ◌∙◌, ap, subst, arith, length-drop}
+use Rattle.std.specs.Prelude.{Ok}
 use Rattle.std.proofs.Math.Seq.{take-add}
-use Rattle.std.proofs.lemmas.List.{drop-drop}
-use Rattle.kms_host.specs.History.{History, HasFirst, then_call}
+use Rattle.std.proofs.lemmas.List.{drop-drop, length-take}
+use Rattle.kms_host.specs.History.{History}
 use Rattle.kms_host.specs.Disk.{reads}
 use Rattle.kms_host.specs.Moment.{Throughout}
-use Rattle.kms_host.specs.declared.call.Call.TheVariants.{OnFile}
-use Rattle.kms_host.specs.declared.call.FileCall.TheVariants.{Read}
-use Rattle.std.specs.Prelude.{Option}
+use Rattle.kms_journal.specs.Ahead.{IsAhead, Fills}
 use Rattle.kms_journal.specs.Device.{IsUntouched}
-use Rattle.kms_journal.proofs.ReadingLaws.{no_read, one_read, reading_then, same_reads}
+use Rattle.kms_journal.proofs.AheadLaws.{ahead_later, ahead_before, ahead_front, ahead_skip}
+use Rattle.kms_journal.proofs.ReadingLaws.{no_read, reading_then, same_reads}
 
--- so much of the part is read
-pub record ReadsSoFar (file at size done : ℕ) (part : List ℕ) (was now : History) : Type 0 where
+-- so much of the part is read, and the buffer goes on behind it
+pub record ReadsSoFar (file at size done : ℕ) (old new part : List ℕ) (was now : History) : Type 0 where
   pub throughout : Throughout (IsUntouched was) was now
-  pub bytes : at + size ≤ length (reads file was) → part ≡ take done (drop at (reads file was))
+  pub bytes : IsAhead file at old was → at + size ≤ length (reads file was) → part ≡ take done (drop at (reads file was))
+  pub ahead : IsAhead file at old was → at + size ≤ length (reads file was) → IsAhead file (at + done) new was
 
-pub reads_nothing : (file at size : ℕ) (part : List ℕ) (was : History) → part ≡ [] → ReadsSoFar file at size 0 part was was
-reads_nothing file at size part was none = record { throughout = no_read was; bytes = λ long. none }
-
-pub reads_on : (file at size done piece : ℕ) (part room : List ℕ) (n : ℕ) (was mid now : History) (bytes : Option (List ℕ)) → ReadsSoFar file at size done part was mid
-    → now ≡ then_call mid (OnFile file (Read (at + done) (length room) bytes)) → HasFirst (drop (at + done) (reads file mid)) room n → length room ≡ piece → done + piece ≤ size
-    → ReadsSoFar file at size (done + piece) (part ++ take n room) was now
-reads_on file at size done piece part room n was mid now bytes so_far is first room_is fits = record {
-  throughout = reading_then was mid now so_far.throughout (one_read mid now file (at + done) (length room) bytes is);
-  bytes = λ long.
-      let all = reads file was in
-      let rest : drop (at + done) (reads file mid) ≡ drop (at + done) all = ap (drop (at + done)) (same_reads was mid so_far.throughout file) in
-      let count : n ≡ piece = omega (arith, first.count, ap length rest, length-drop (at + done) all, room_is, long, fits) in
-      let there : take n room ≡ take piece (drop done (drop at all)) =
-      first.same ∙ ap (take n) (rest ∙ sym (drop-drop done at all)) ∙ ap (λ (k : ℕ). take k (drop done (drop at all))) count in
-      ap (λ (l : List ℕ). l ++ take n room) (so_far.bytes long) ∙ ap (λ (l : List ℕ). take done (drop at all) ++ l) there ∙ sym (take-add done piece (drop at all));
+pub reads_nothing : (file at size : ℕ) (old part : List ℕ) (was : History) → part ≡ [] → ReadsSoFar file at size 0 old old part was was
+reads_nothing file at size old part was none = record {
+  throughout = no_read was;
+  bytes = λ a long. none;
+  ahead = λ a long. subst (λ (p : ℕ). IsAhead file p old was) (omega arith) a;
 }
+
+module _ {T E : Type 0} (file at size done most : ℕ) (old held new part : List ℕ) (x : T) (was mid now : History) (so_far : ReadsSoFar file at size done old held part was mid) (fill : Fills {T = T} {E = E} file (at + done) 1 held new (Ok x) mid now) (more : done < size) (some : 0 < most) where
+  through : Throughout (IsUntouched was) was now
+  through = reading_then was mid now so_far.throughout fill.throughout
+
+  piece : List ℕ
+  piece = take most new
+
+  here : IsAhead file at old was → at + size ≤ length (reads file was) → IsAhead file (at + done) new was
+  here a long =
+      ahead_before file (at + done) new was mid so_far.throughout
+      (fill.ahead (ahead_later file (at + done) held was mid so_far.throughout (so_far.ahead a long)))
+
+  -- something came
+  pub some_read : IsAhead file at old was → at + size ≤ length (reads file was) → 0 < length (take most new)
+  some_read a long =
+      let there = fill.enough (ahead_later file (at + done) held was mid so_far.throughout (so_far.ahead a long)) in
+      let same = same_reads was mid so_far.throughout file in
+      omega (arith, there, length-take most new, length-drop (at + done) (reads file mid), ap length same, long, more, some)
+
+  pub reads_on : ReadsSoFar file at size (done + length (take most new)) old (drop (length (take most new)) new) (part ++ take most new) was now
+  reads_on = record {
+    throughout = through;
+    bytes = λ a long.
+        let all = reads file was in
+        let n = length (take most new) in
+        let there : take most new ≡ take n (drop done (drop at all)) = ahead_front file (at + done) most new was (here a long) ∙ ap (take n) (sym (drop-drop done at all)) in
+        ap (λ (l : List ℕ). l ++ take most new) (so_far.bytes a long) ∙ ap (λ (l : List ℕ). take done (drop at all) ++ l) there ∙ sym (take-add done n (drop at all));
+    ahead = λ a long.
+        let n = length (take most new) in
+        subst (λ (p : ℕ). IsAhead file p (drop n new) was) (omega arith) (ahead_skip file (at + done) n new was (here a long));
+  }

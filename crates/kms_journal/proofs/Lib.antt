@@ -1,3 +1,5 @@
+pub mod AheadLaws
+pub mod BufferLaws
 pub mod CommitLaws
 pub mod CreateLaws
 pub mod CurrentLaws

@@ -8,7 +8,7 @@ use Rattle.kms_host.specs.Disk.{reads, files, of_file}
 use Rattle.kms_host.specs.Store.{IsAttached}
 use Rattle.kms_host.specs.Moment.{Throughout}
 use Rattle.kms_host.proofs.Moments.{throughout_weaker, joined, at_last}
-use Rattle.kms_journal.specs.Answers.{chain_at, headed_alone}
+use Rattle.kms_journal.specs.Answers.{chain_of, chain_at, headed_alone}
 use Rattle.kms_journal.specs.Current.{IsTold, IsCurrentOf, is_current_based, IsSized, Finds}
 use Rattle.kms_journal.specs.Device.{HasPlace, IsUntouched}
 use Rattle.kms_journal.specs.Header.{number_in, is_in_range, snapshot_len}
@@ -84,13 +84,15 @@ module _ (c : Current) (bytes : List ℕ) (told : IsTold c bytes) where
   snapshot_size based = length-take-le c.header.snapshot (drop 50 bytes) (omega (arith, within based, length-drop 50 bytes))
 
   -- the answers of a check
-  pub checked_whole : (stop : Stop) → is_current_based c ≡ true → StopsAs bytes (50 + c.header.snapshot) stop → stop.is_whole ≡ true → IsChecked c bytes (Ok stop.at)
-  checked_whole stop based stops whole = (
+  pub checked_whole : (stop : Stop) (chain : Chain) → is_current_based c ≡ true → StopsAs bytes (50 + c.header.snapshot) stop → stop.is_whole ≡ true → chain ≡ chain_at c bytes
+      → IsChecked c bytes (Ok (chain, stop.at))
+  checked_whole stop chain based stops whole is = (
     stands c bytes,
     stands_whole based,
     sym stops.is_whole ∙ whole,
-    ap (λ (e : ℕ). position_at c.header e false) stops.at
+    ap (λ (e : ℕ). position_at c.header e false None) stops.at
         ∙ ap (λ (n : ℕ). let p : Position = record (position_of (stands c bytes)) { start = 50 + n } in p) (sym (snapshot_size based)),
+    is,
   )
 
   pub checked_record : (stop : Stop) (chain : Chain) → is_current_based c ≡ true → StopsAs bytes (50 + c.header.snapshot) stop → stop.is_whole ≡ false → chain ≡ chain_at c bytes
@@ -144,13 +146,13 @@ pub no_memory_at_once : (was : History) → Opens (Err NoMemory) was was
 no_memory_at_once was = record { throughout = reading_keeps was was (no_read was); answer = untouched was }
 
 -- what is found and checked, of the files as they read at first
-pub record ChecksFrom (c : Current) (result : Result ℕ JournalFault) (was now : History) : Type 0 where
+pub record ChecksFrom (c : Current) (result : Result (Chain × ℕ) JournalFault) (was now : History) : Type 0 where
   pub throughout : Throughout (IsUntouched was) was now
   pub current : standing_of (files was) ≡ standing c.header.file (reads c.header.file was)
   pub size : c.size ≡ length (reads c.header.file was)
   pub answer : IsChecked c (reads c.header.file was) result
 
-pub checks_from : {E : Type 0} (c : Current) (found : Option Current) (result : Result ℕ JournalFault) (was mid now : History) → found ≡ Some c → IsSized c
+pub checks_from : {E : Type 0} (c : Current) (found : Option Current) (result : Result (Chain × ℕ) JournalFault) (was mid now : History) → found ≡ Some c → IsSized c
     → Finds {T = Option Current} {E = E} (IsCurrentOf (files was)) (Ok found) was mid → Checks c result mid now → ChecksFrom c result was now
 checks_from c found result was mid now is sized f k =
     let file = c.header.file in
@@ -181,13 +183,19 @@ opens_damaged c e was now k = record { throughout = reading_keeps was now k.thro
     by_fault (Damaged place chain) a = (a.0, k.current ∙ a.1, a.2, a.3, a.4, at_last (IsUntouched was) was now k.throughout)
     by_fault NoMemory a = at_last (IsUntouched was) was now k.throughout
 
-pub end_place : (c : Current) (end : ℕ) (was mid : History) → end < c.size → IsAttached was → ChecksFrom c (Ok end) was mid → HasPlace c.header.file (end + 1) mid
-end_place c end was mid within attached k = record {
+pub end_place : (c : Current) (chain : Chain) (end : ℕ) (was mid : History) → end < c.size → IsAttached was → ChecksFrom c (Ok (chain, end)) was mid → HasPlace c.header.file (end + 1) mid
+end_place c chain end was mid within attached k = record {
   attached = attached_after was mid k.throughout attached;
   within = omega (arith, within, k.size, ap length (same_reads was mid k.throughout c.header.file));
 }
 
-module _ (c : Current) (end : ℕ) (was mid now : History) (lt : c.header.file < 2) (attached : IsAttached was) (k : ChecksFrom c (Ok end) was mid) where
+-- where what was read is kept
+read_placed : (p : Position) (chain : Chain) (h : History) (s : Standing) → p ≡ (let q : Position = record (position_of s) { chain = Some chain } in q) → chain ≡ chain_of s → IsPlaced (position_of s) h s → IsPlaced p h s
+read_placed p chain h s is same placed =
+    subst (λ (q : Position). IsPlaced q h s) (sym is)
+    (record { attached = placed.attached; current = placed.current; whole = placed.whole; here = refl; read = same; last = placed.last; clear = placed.clear })
+
+module _ (c : Current) (chain : Chain) (end : ℕ) (was mid now : History) (lt : c.header.file < 2) (attached : IsAttached was) (k : ChecksFrom c (Ok (chain, end)) was mid) where
   pub readable : IsReadable c.header.file end mid k.answer.0
   readable =
       let s = k.answer.0 in
@@ -209,7 +217,7 @@ module _ (c : Current) (end : ℕ) (was mid now : History) (lt : c.header.file <
   pub opens_repair_fails : {T E : Type 0} (d : E) → ((s : Standing) → IsReadable c.header.file end mid s → Repairs {T = T} {E = E} (Err d) s mid now) → Opens (Err StoreFault) was now
   opens_repair_fails d r = record { throughout = during (Err d) (r k.answer.0 readable); answer = tt }
 
-  pub opens_done : {T E : Type 0} (x : T) (p : Position) → p ≡ position_at c.header end false → ((s : Standing) → IsReadable c.header.file end mid s → Repairs {T = T} {E = E} (Ok x) s mid now) → Opens (Ok p) was now
+  pub opens_done : {T E : Type 0} (x : T) (p : Position) → p ≡ position_at c.header end false (Some chain) → ((s : Standing) → IsReadable c.header.file end mid s → Repairs {T = T} {E = E} (Ok x) s mid now) → Opens (Ok p) was now
   opens_done x p is r =
       let s = k.answer.0 in
       let done = r s readable in
@@ -218,7 +226,7 @@ module _ (c : Current) (end : ℕ) (was mid now : History) (lt : c.header.file <
         answer = (
           s,
           k.current ∙ k.answer.1,
-          subst (λ (q : Position). IsPlaced q now s) (sym (is ∙ k.answer.3)) done.placed,
+          read_placed p chain now s (is ∙ ap (λ (q : Position). let x : Position = record q { chain = Some chain } in x) k.answer.3) k.answer.4 done.placed,
           λ quiet. done.quiet (quiet_after was mid (at_last (IsUntouched was) was mid k.throughout) quiet),
           done.rests,
         );

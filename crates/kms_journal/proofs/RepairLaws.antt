@@ -15,7 +15,7 @@ use Rattle.kms_journal.proofs.StandingLaws.{extended, FileFront, file_front}
 use Rattle.kms_journal.proofs.FileLaws.{own_standing, image_of, file_of, one_left, rested, still_quiet, still_attached}
 use Rattle.kms_journal.proofs.CommitLaws.{by_file, by_reads}
 
-take_past : (xs ys : List ℕ) (m n : ℕ) → m ≡ length xs + n → take m (xs ++ ys) ≡ xs ++ take n ys
+pub take_past : (xs ys : List ℕ) (m n : ℕ) → m ≡ length xs + n → take m (xs ++ ys) ≡ xs ++ take n ys
 take_past [] ys m n is = ap (λ (k : ℕ). take k ys) (omega (arith, is))
 take_past (x ∷ xs) ys zero n is = absurd (omega arith)
 take_past (x ∷ xs) ys (suc m) n is = ap (λ (l : List ℕ). x ∷ l) (take_past xs ys m n (omega arith))
@@ -159,6 +159,7 @@ module _ (file end : ℕ) (was : History) (s : Standing) (lt : file < 2) (r : Is
           current = by_reads file was now s s lt r.current r.in_file other refl (ap (standing file) read ∙ stays file end (reads file was) s g r.at_end r.whole (0 ∷ []) (omega arith) refl);
           whole = r.whole;
           here = refl;
+          read = tt;
           last = ap length here ∙ omega (arith, length-append g.front (0 ∷ []), size, r.at_end);
           clear = ap (λ (l : List ℕ). get_or l s.stop 0) here ∙ get_or_at g.front 0 [] 0 s.stop (omega (arith, size, r.at_end));
         };

@@ -1,6 +1,6 @@
 -- For callers: what a store at rest stands for, what leaves it so, and how a record is framed.
 use Rattle.std.proofs.Common.{◌≡◌, ℕ, suc, ◌+◌, ◌-◌, ◌^◌, ◌<◌, List, [], ◌∷◌, ◌++◌, length, get_or, take, refl, sym, ◌∙◌, ap, subst, arith, length-append}
-use Rattle.std.specs.Prelude.{Option, Some, Result, Ok, Bool}
+use Rattle.std.specs.Prelude.{Option, Some, None, Result, Ok, Bool}
 use Rattle.std.proofs.lemmas.List.{take_at, get_or_at}
 use Rattle.std.proofs.lemmas.Nat.{from_be_bytes-to_be_bytes_4}
 use Rattle.kms_host.specs.History.{History, Tells, WhereTold}
@@ -53,6 +53,7 @@ placed_stays p was now s same attached placed =
       current = ap standing_of (same_files_by_disk was now same) ∙ placed.current;
       whole = placed.whole;
       here = placed.here;
+      read = placed.read;
       last = ap length read ∙ placed.last;
       clear = ap (λ (l : List ℕ). get_or l s.stop 0) read ∙ placed.clear;
     }
@@ -62,6 +63,18 @@ placed_untouched p was now s u placed = placed_stays p was now s u.disk (still_a
 
 pub quiet_stays : (was now : History) → ((f : ℕ) → disk f now ≡ disk f was) → IsQuietStore was → IsQuietStore now
 quiet_stays was now same quiet f low = same f ∙ quiet f low ∙ ap (λ (d : Disk). at_rest d.reads) (sym (same f))
+
+-- and so does taking what the opening read
+pub placed_taken : (p : Position) (h : History) (s : Standing) → IsPlaced p h s → let q : Position = record p { chain = None } in IsPlaced q h s
+placed_taken p h s placed = record {
+  attached = placed.attached;
+  current = placed.current;
+  whole = placed.whole;
+  here = ap (λ (q : Position). let x : Position = record q { chain = None } in x) placed.here;
+  read = tt;
+  last = placed.last;
+  clear = placed.clear;
+}
 
 -- a store that was opened is one whose journal is placed
 pub opened_placed : {a b : Option History} (p : Position) → Tells a b (Opens (Ok p)) → WhereTold b (λ h. (s : Standing) × IsPlaced p h s)

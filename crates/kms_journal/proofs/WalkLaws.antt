@@ -6,13 +6,15 @@ use Rattle.std.proofs.lemmas.Bool.{ltb-true}
 use Rattle.kms_host.specs.History.{History}
 use Rattle.kms_host.specs.Disk.{reads}
 use Rattle.kms_host.specs.Moment.{Throughout}
-use Rattle.kms_journal.specs.Current.{Finds}
+use Rattle.kms_journal.specs.Ahead.{IsAhead}
 use Rattle.kms_journal.specs.Device.{IsUntouched}
+use Rattle.kms_journal.specs.Gather.{ReadsPart, AreGathered}
 use Rattle.kms_journal.specs.Standing.{Records, is_set, record_len, record_in, is_record_whole, stopped, with_item, records_from}
-use Rattle.kms_journal.specs.Walk.{IsNext, records_at, StopsAs}
+use Rattle.kms_journal.specs.Walk.{IsNext, Looks, records_at, StopsAs}
 use Rattle.kms_journal.specs.declared.walk.Next.{Next}
 use Rattle.kms_journal.specs.declared.walk.Next.TheVariants.{Clear, Broken, Whole}
 use Rattle.kms_journal.specs.declared.walk.Stop.{Stop}
+use Rattle.kms_journal.proofs.AheadLaws.{ahead_later, ahead_before}
 use Rattle.kms_journal.proofs.ReadingLaws.{no_read, reading_then, same_reads}
 use Rattle.kms_journal.proofs.RecordLaws.{joined, same_count, clear_stops, next_set, next_broken}
 
@@ -50,62 +52,62 @@ clear_at bytes place is = clear_stops (length bytes) place (drop place bytes) is
 pub broken_at : (bytes : List ℕ) (place : ℕ) → IsNext (drop place bytes) Broken → records_at bytes place ≡ stopped place false
 broken_at bytes place is = broken_from (length bytes) place (drop place bytes) (omega (arith, length-drop place bytes)) is.0 is.1
 
--- these records, and then those from the place on
-pub record WalksSoFar (file size start place : ℕ) (items : List (ℕ × List ℕ)) (was now : History) : Type 0 where
+-- these records, and then those from the place on, where the buffer goes on
+pub record WalksSoFar (file size start place : ℕ) (first held : List ℕ) (items : List (ℕ × List ℕ)) (was now : History) : Type 0 where
   pub throughout : Throughout (IsUntouched was) was now
-  pub records : size ≡ length (reads file was) → records_at (reads file was) start ≡ joined items (records_at (reads file was) place)
+  pub records : size ≡ length (reads file was) → IsAhead file start first was → records_at (reads file was) start ≡ joined items (records_at (reads file was) place)
+  pub ahead : size ≡ length (reads file was) → IsAhead file start first was → IsAhead file place held was
 
-pub walks_nothing : (file size start : ℕ) (was : History) → WalksSoFar file size start start [] was was
-walks_nothing file size start was = record { throughout = no_read was; records = λ long. refl }
+pub walks_nothing : (file size start : ℕ) (first : List ℕ) (was : History) → WalksSoFar file size start start first first [] was was
+walks_nothing file size start first was = record { throughout = no_read was; records = λ long a. refl; ahead = λ long a. a }
 
-module _ (file size start place : ℕ) (items : List (ℕ × List ℕ)) (was mid now : History) (so_far : WalksSoFar file size start place items was mid) where
+module _ {E : Type 0} (file size start place : ℕ) (first held new : List ℕ) (items : List (ℕ × List ℕ)) (next : Next) (was mid now : History) (so_far : WalksSoFar file size start place first held items was mid)
+    (look : Looks {E = E} file place size held new (Ok next) mid now) where
+  pub looks_through : Throughout (IsUntouched was) was now
+  looks_through = reading_then was mid now so_far.throughout look.throughout
+
+  ahead_there : size ≡ length (reads file was) → IsAhead file start first was → IsAhead file place held mid
+  ahead_there long a = ahead_later file place held was mid so_far.throughout (so_far.ahead long a)
+
   -- what is found in the files as they read then is found in them as they read at first
-  next_then : {E : Type 0} (next : Next) → Finds {T = Next} {E = E} (λ x. size ≡ length (reads file mid) → IsNext (drop place (reads file mid)) x) (Ok next) mid now
-      → size ≡ length (reads file was) → IsNext (drop place (reads file was)) next
-  next_then next f long =
+  next_then : size ≡ length (reads file was) → IsAhead file start first was → IsNext (drop place (reads file was)) next
+  next_then long a =
       let same = same_reads was mid so_far.throughout file in
-      subst (λ (l : List ℕ). IsNext (drop place l) next) same (f.found (long ∙ ap length (sym same)))
+      subst (λ (l : List ℕ). IsNext (drop place l) next) same (look.found (long ∙ ap length (sym same)) (ahead_there long a))
 
-  pub walks_on : {E : Type 0} (next : Next) (n : ℕ) → next ≡ Whole n → Finds {T = Next} {E = E} (λ x. size ≡ length (reads file mid) → IsNext (drop place (reads file mid)) x) (Ok next) mid now
-      → WalksSoFar file size start (place + (5 + n)) (items ++ (place, take n (drop (place + 5) (reads file was))) ∷ []) was now
-  walks_on next n whole f = record {
-    throughout = reading_then was mid now so_far.throughout f.throughout;
-    records = λ long.
-        let bytes = reads file was in
-        let item : ℕ × List ℕ = (place, take n (drop (place + 5) bytes)) in
-        let more = records_at bytes (place + (5 + n)) in
-        so_far.records long ∙ ap (joined items) (next_at bytes place n (subst (IsNext (drop place bytes)) whole (next_then next f long)))
-        ∙ ap (λ (l : List (ℕ × List ℕ)). let r : Records = record { items = l; stop = more.stop; is_whole = more.is_whole } in r) (sym (append_assoc items (item ∷ []) more.items));
-  }
-
-  pub walks_to : {E : Type 0} (next there : Next) (is_whole : Bool) → next ≡ there → ((bytes : List ℕ) → IsNext (drop place bytes) there → records_at bytes place ≡ stopped place is_whole)
-      → Finds {T = Next} {E = E} (λ x. size ≡ length (reads file mid) → IsNext (drop place (reads file mid)) x) (Ok next) mid now
-      → size ≡ length (reads file was) → records_at (reads file was) start ≡ joined items (stopped place is_whole)
-  walks_to next there is_whole is stops f long = so_far.records long ∙ ap (joined items) (stops (reads file was) (subst (IsNext (drop place (reads file was))) is (next_then next f long)))
-
-  -- with the record's bytes read too
-  pub gathers_on : {E F : Type 0} (next : Next) (n : ℕ) (body : List ℕ) (late : History) → next ≡ Whole n → place + (5 + n) < size
-      → Finds {T = Next} {E = E} (λ x. size ≡ length (reads file mid) → IsNext (drop place (reads file mid)) x) (Ok next) mid now
-      → Finds {T = List ℕ} {E = F} (λ part. place + 5 + n ≤ length (reads file now) → part ≡ take n (drop (place + 5) (reads file now))) (Ok body) now late
-      → WalksSoFar file size start (place + (5 + n)) (items ++ (place, body) ∷ []) was late
-  gathers_on next n body late whole inside f read =
-      let more = walks_on next n whole f in
+  pub walks_on : {F : Type 0} (later : List ℕ) (n : ℕ) (body : List ℕ) (late : History) → next ≡ Whole n → place + (5 + n) < size
+      → ReadsPart {E = F} file (place + 5) n new later (Ok body) now late → WalksSoFar file size start (place + (5 + n)) first later (items ++ (place, body) ∷ []) was late
+  walks_on later n body late whole inside read =
+      let bytes = reads file was in
+      let same = same_reads was now looks_through file in
+      let behind : size ≡ length bytes → IsAhead file start first was → IsAhead file (place + 5) new now = λ long a. ahead_later file (place + 5) new mid now look.throughout (look.ahead (ahead_there long a)) in
+      let within : size ≡ length bytes → place + 5 + n ≤ length (reads file now) = λ long. omega (arith, inside, long, ap length same) in
       record {
-        throughout = reading_then was now late more.throughout read.throughout;
-        records = λ long.
-            let same = same_reads was now more.throughout file in
-            let part : body ≡ take n (drop (place + 5) (reads file was)) =
-            read.found (omega (arith, inside, long, ap length same)) ∙ ap (λ (l : List ℕ). take n (drop (place + 5) l)) same in
-            more.records long ∙ ap (λ (b : List ℕ). joined (items ++ (place, b) ∷ []) (records_at (reads file was) (place + (5 + n)))) (sym part);
+        throughout = reading_then was now late looks_through read.throughout;
+        records = λ long a.
+            let part : body ≡ take n (drop (place + 5) bytes) = read.part (behind long a) (within long) ∙ ap (λ (l : List ℕ). take n (drop (place + 5) l)) same in
+            let item : ℕ × List ℕ = (place, body) in
+            let more = records_at bytes (place + (5 + n)) in
+            so_far.records long a ∙ ap (joined items) (next_at bytes place n (subst (IsNext (drop place bytes)) whole (next_then long a)))
+            ∙ ap (λ (b : List ℕ). joined items (with_item place b more)) (sym part)
+            ∙ ap (λ (l : List (ℕ × List ℕ)). let r : Records = record { items = l; stop = more.stop; is_whole = more.is_whole } in r) (sym (append_assoc items (item ∷ []) more.items));
+        ahead = λ long a.
+            ahead_before file (place + (5 + n)) later was now looks_through
+            (subst (λ (p : ℕ). IsAhead file p later now) (omega arith) (read.ahead (behind long a) (within long)));
       }
 
-  -- and to the end
-  pub gathers_all : {E : Type 0} (next : Next) → ((n : ℕ) → next ≡ Whole n → ⊥)
-      → Finds {T = Next} {E = E} (λ x. size ≡ length (reads file mid) → IsNext (drop place (reads file mid)) x) (Ok next) mid now
-      → size ≡ length (reads file was) → items ≡ (records_at (reads file was) start).items
-  gathers_all Clear not f long = sym (ap (λ (r : Records). r.items) (walks_to Clear Clear true refl (λ bytes is. clear_at bytes place is) f long) ∙ append-nil items)
-  gathers_all Broken not f long = sym (ap (λ (r : Records). r.items) (walks_to Broken Broken false refl (λ bytes is. broken_at bytes place is) f long) ∙ append-nil items)
-  gathers_all (Whole n) not f long = absurd (not n refl)
+  pub walks_to : (there : Next) (is_whole : Bool) → next ≡ there → ((bytes : List ℕ) → IsNext (drop place bytes) there → records_at bytes place ≡ stopped place is_whole)
+      → size ≡ length (reads file was) → IsAhead file start first was → records_at (reads file was) start ≡ joined items (stopped place is_whole)
+  walks_to there is_whole is stops long a =
+      so_far.records long a ∙ ap (joined items) (stops (reads file was) (subst (IsNext (drop place (reads file was))) is (next_then long a)))
 
 pub stops_as : (bytes : List ℕ) (start place : ℕ) (is_whole : Bool) (items : List (ℕ × List ℕ)) → records_at bytes start ≡ joined items (stopped place is_whole) → let stop : Stop = record { at = place; is_whole = is_whole } in StopsAs bytes start stop
 stops_as bytes start place is_whole items is = record { at = sym (ap (λ (r : Records). r.stop) is); is_whole = sym (ap (λ (r : Records). r.is_whole) is) }
+
+-- they are all that there are
+pub all_gathered : (bytes : List ℕ) (start place : ℕ) (is_whole : Bool) (items : List (ℕ × List ℕ)) → records_at bytes start ≡ joined items (stopped place is_whole)
+    → let stop : Stop = record { at = place; is_whole = is_whole } in AreGathered bytes start items stop
+all_gathered bytes start place is_whole items is = record {
+  items = sym (ap (λ (r : Records). r.items) is ∙ append-nil items);
+  stop = stops_as bytes start place is_whole items is;
+}

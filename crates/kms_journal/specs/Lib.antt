@@ -1,9 +1,11 @@
+pub mod Ahead
 pub mod Answers
 pub mod Commit
 pub mod Create
 pub mod Current
 pub mod Device
 pub mod Fault
+pub mod Gather
 pub mod Header
 pub mod Lasting
 pub mod Position

@@ -1,10 +1,12 @@
 -- Where a journal stands in its store.
-use Rattle.std.specs.Prelude.{◌≡◌, ℕ, ◌+◌, length, Some, slice_index, Bool, true, false}
+use Rattle.std.specs.Prelude.{◌≡◌, ℕ, ◌+◌, length, Option, Some, None, IfSome, slice_index, Bool, true, false}
 use Rattle.kms_host.specs.Disk.{reads, files}
 use Rattle.kms_host.specs.History.{History}
 use Rattle.kms_host.specs.Store.{IsAttached}
+use Rattle.kms_journal.specs.Answers.{chain_of}
 use Rattle.kms_journal.specs.Device.{IsQuietStore}
 use Rattle.kms_journal.specs.Standing.{Standing, standing_of}
+use Rattle.kms_journal.specs.declared.chain.Chain.{Chain}
 use Rattle.kms_journal.specs.declared.header.Header.{Header}
 
 -- what a journal keeps of the current file
@@ -20,6 +22,8 @@ pub record Position : Type 0 where
   pub end : ℕ
   -- a call of the store failed in one of the journal's calls
   pub failed : Bool
+  -- what the opening read, until it is taken or a record is added
+  pub chain : Option Chain
 
 abbrev pub position_of : Standing → Position
 position_of s = record {
@@ -31,11 +35,12 @@ position_of s = record {
   start = 50 + length s.snapshot;
   end = s.stop;
   failed = false;
+  chain = None;
 }
 
 -- the position of a journal of this header, whose last commit mark stands at this place
-abbrev pub position_at : Header → ℕ → Bool → Position
-position_at header end failed = record {
+abbrev pub position_at : Header → ℕ → Bool → Option Chain → Position
+position_at header end failed chain = record {
   file = header.file;
   generation = header.generation;
   tag = header.tag;
@@ -44,6 +49,7 @@ position_at header end failed = record {
   start = 50 + header.snapshot;
   end = end;
   failed = failed;
+  chain = chain;
 }
 
 -- the position after a call of the journal in which a call of the store failed, or none did
@@ -51,12 +57,14 @@ abbrev pub failed_if : Bool → Position → Position
 failed_if true p = record p { failed = true }
 failed_if false p = p
 
--- The store stands for this, and the journal stands at its end: the last commit mark is the file's last byte, and clear.
+-- The store stands for this, and the journal stands at its end: the last commit mark is the file's last byte, and clear. No
+-- call of the store failed in the journal's calls, and what it read at the opening is what the store stands for.
 pub record IsPlaced (position : Position) (h : History) (s : Standing) : Type 0 where
   pub attached : IsAttached h
   pub current : standing_of (files h) ≡ Some s
   pub whole : s.is_whole ≡ true
-  pub here : position ≡ position_of s
+  pub here : position ≡ record (position_of s) { chain = position.chain }
+  pub read : IfSome position.chain (λ chain. chain ≡ chain_of s)
   pub last : length (reads s.file h) ≡ s.stop + 1
   pub clear : slice_index (reads s.file h) s.stop ≡ 0
 

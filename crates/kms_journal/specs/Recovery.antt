@@ -9,6 +9,7 @@ use Rattle.kms_journal.specs.Current.{IsTold}
 use Rattle.kms_journal.specs.Device.{IsQuiet, IsQuietStore, IsUntouched}
 use Rattle.kms_journal.specs.Position.{Position, position_of, position_at, IsPlaced}
 use Rattle.kms_journal.specs.Standing.{Standing, standing, standing_of}
+use Rattle.kms_journal.specs.declared.chain.Chain.{Chain}
 use Rattle.kms_journal.specs.declared.fault.JournalFault.{JournalFault}
 use Rattle.kms_journal.specs.declared.fault.JournalFault.TheVariants.{NoStore, StoreFault, Damaged, NoMemory}
 use Rattle.kms_journal.specs.declared.header.Current.{Current}
@@ -60,15 +61,16 @@ pub record Repairs {T E : Type 0} (result : Result T E) (s : Standing) (was now 
   pub quiet : OnOk result (IsQuietStore was → IsQuietStore now)
   pub rests : OnOk result (IsQuiet s.file now)
 
--- what is found of the current file's end: the last commit mark, or damage
-abbrev pub IsChecked : Current → List ℕ → Result ℕ JournalFault → Type 0
-IsChecked c bytes (Ok end) = (s : Standing) × (standing c.header.file bytes ≡ Some s) × (s.is_whole ≡ true) × (position_at c.header end false ≡ position_of s)
+-- what is found of the current file: all of it and its last commit mark, or damage
+abbrev pub IsChecked : Current → List ℕ → Result (Chain × ℕ) JournalFault → Type 0
+IsChecked c bytes (Ok found) = (s : Standing) × (standing c.header.file bytes ≡ Some s) × (s.is_whole ≡ true) × (position_at c.header found.1 false None ≡ position_of s)
+    × (found.0 ≡ chain_of s)
 IsChecked c bytes (Err NoStore) = ⊥
 IsChecked c bytes (Err (Damaged place chain)) = (s : Standing) × (standing c.header.file bytes ≡ Some s) × (s.is_whole ≡ false)
     × (place ≡ Body s.file s.stop) × (chain ≡ chain_of s)
 IsChecked c bytes (Err StoreFault) = Unit {0}
 IsChecked c bytes (Err NoMemory) = Unit {0}
 
-pub record Checks (c : Current) (result : Result ℕ JournalFault) (was now : History) : Type 0 where
+pub record Checks (c : Current) (result : Result (Chain × ℕ) JournalFault) (was now : History) : Type 0 where
   pub throughout : Throughout (IsUntouched was) was now
   pub answer : IsTold c (reads c.header.file was) → IsChecked c (reads c.header.file was) result

@@ -1,5 +1,10 @@
 -- What is read of the records of a file.
-use Rattle.std.specs.Prelude.{◌≡◌, ℕ, ◌+◌, ◌<◌, List, length, drop, true, false}
+use Rattle.std.specs.Prelude.{◌≡◌, ℕ, ◌+◌, ◌<◌, List, length, drop, true, false, Result, IfOk, OnOk}
+use Rattle.kms_host.specs.Disk.{reads}
+use Rattle.kms_host.specs.History.{History}
+use Rattle.kms_host.specs.Moment.{Throughout}
+use Rattle.kms_journal.specs.Ahead.{IsAhead}
+use Rattle.kms_journal.specs.Device.{IsUntouched}
 use Rattle.kms_journal.specs.Standing.{Records, is_set, is_record_whole, record_len, records_from}
 use Rattle.kms_journal.specs.declared.walk.Next.{Next}
 use Rattle.kms_journal.specs.declared.walk.Next.TheVariants.{Clear, Broken, Whole}
@@ -16,6 +21,13 @@ abbrev pub IsInside : ℕ → Next → Type 0
 IsInside left Clear = Unit {0}
 IsInside left Broken = Unit {0}
 IsInside left (Whole size) = 5 + size < left
+
+-- The file is read at most. With the bytes from the place on in the buffer, what stands there is found, and the buffer
+-- has those five bytes further on.
+pub record Looks {E : Type 0} (file place size : ℕ) (old new : List ℕ) (result : Result Next E) (was now : History) : Type 0 where
+  pub throughout : Throughout (IsUntouched was) was now
+  pub found : IfOk result (λ next. size ≡ length (reads file was) → IsAhead file place old was → IsNext (drop place (reads file was)) next)
+  pub ahead : OnOk result (IsAhead file place old was → IsAhead file (place + 5) new was)
 
 -- the records of a file from a place on
 abbrev pub records_at : List ℕ → ℕ → Records

@@ -1,5 +1,5 @@
 // An opened store, and how it grows.
-ghost use Rattle.std.specs.Prelude.{◌≡◌, ◌+◌, ◌-◌, ◌^◌, ◌<◌, ◌≤◌, length, OnOk, OnErr, is_err, false, true};
+ghost use Rattle.std.specs.Prelude.{◌≡◌, ◌+◌, ◌-◌, ◌^◌, ◌<◌, ◌≤◌, length, Some, None, OnOk, OnErr, is_err, false, true};
 ghost use Rattle.kms_host.specs.Faults.{HasCause};
 ghost use Rattle.kms_host.specs.History.{Tells, WhereTold, Stops};
 ghost use Rattle.kms_host.specs.declared.call.Count.TheVariants as counts;
@@ -11,6 +11,7 @@ ghost use Rattle.kms_journal.specs.Standing.{Standing};
 ghost use Rattle.kms_journal.specs.declared.fault.JournalFault.TheVariants as faults;
 ghost use Rattle.kms_journal.specs.Fault.{Fails, is_failed_opening};
 
+use crate::buffer::Buffer;
 use crate::fault::GatherFault;
 use crate::gather::read_chain;
 use crate::header::{Current, Header};
@@ -20,16 +21,15 @@ use kms_host::Host;
 use std::alloc::Global;
 use std::marker::Model;
 
-/// How many bytes are read at once, at most.
-pub const ROOM: usize = 65_536;
-
-/// An opened store: its current file's header, the place of that file's last commit mark, the room for reading, and
-/// whether a call of the store failed in one of the journal's calls. From then on nothing is written.
+/// An opened store: its current file's header, the place of that file's last commit mark, the buffer for reading, what
+/// the opening read, until that is taken, and whether a call of the store failed in one of the journal's calls. From then
+/// on nothing is written.
 #[derive(Drop)]
 pub struct Journal {
     header: Header,
     end: u64,
-    room: Vec<u8>,
+    buffer: Buffer,
+    chain: Option<Chain>,
     failed: bool,
 }
 
@@ -39,24 +39,24 @@ impl Model for Journal {
 
     ghost Value = { Position };
 
-    ghost view = { λ j. position_at j.header j.end j.failed };
+    ghost view = { λ j. position_at j.header j.end j.failed j.chain };
 
-    ghost invariant = { λ j. (j.header.file < 2) × (50 + j.header.snapshot ≤ j.end) × (j.end + 1 < 2 ^ 62) × (length j.room.items ≡ 65536) };
+    ghost invariant = { λ j. (j.header.file < 2) × (50 + j.header.snapshot ≤ j.end) × (j.end + 1 < 2 ^ 62) };
 }
 
 impl Journal {
-    /// A journal of this header, whose last commit mark is at this place.
-    pub(crate) fn of(header: Header, end: u64, room: Vec<u8>) -> Journal
+    /// A journal of this header, whose last commit mark is at this place, and what was read of its store.
+    pub(crate) fn of(header: Header, end: u64, buffer: Buffer, chain: Chain) -> Journal
         requires file { header.file < 2 }
         requires order { 50 + header.snapshot ≤ end }
         requires most { end + 1 < 2 ^ 62 }
-        requires room { length room.items ≡ 65536 }
-        ensures { result ≡ position_at header end false }
+        ensures { result ≡ position_at header end false (Some chain) }
     {
         Journal {
             header,
             end,
-            room,
+            buffer,
+            chain: Some(chain),
             failed: false,
         }
     }
@@ -75,23 +75,28 @@ impl Journal {
         self.end - (50 + self.header.snapshot)
     }
 
-    /// What the store stands for, with all its records, read in pieces through the journal's room. Answers StoreFault
-    /// exactly where a call on the store's files failed, and NoMemory for the only other fault.
+    /// What the store stands for, with all its records: first what the opening read, without any call, and where that was
+    /// taken before or a record was added since, read anew in pieces through the journal's buffer. Answers StoreFault
+    /// exactly where a call on the store's files failed, and the journal has failed then. NoMemory is the only other fault.
     pub fn bodies<H: Host>(&mut self, alloc: Global, host: &mut H) -> Result<Chain, JournalFault>
         requires { WhereTold (H.history host.old) (λ h. (s : Standing) × IsPlaced self.old h s) }
         ensures told { Tells (H.history host.old) (H.history host.new) (λ was now. (s : Standing)
             → IsPlaced self.old was s → Gathers s result was now) }
-        ensures position { self.new ≡ failed_if (is_failed_opening result) self.old }
+        ensures position { self.new ≡ failed_if (is_failed_opening result) (record self.old { chain = None }) }
         ensures cause { HasStoreCause faults.StoreFault (H.faults host.old) (H.faults host.new) result }
         ensures failed { Tells (H.history host.old) (H.history host.new) (Fails (is_failed_opening result)) }
         ensures stops { Stops (H.wanted host.old) (H.wanted host.new) (H.history host.old) (H.history host.new) }
     {
+        if let Some(chain) = self.chain.take() {
+            return Ok(chain);
+        }
+        self.buffer.clear();
         let current = Current {
             header: self.header,
             size: self.end + 1,
         };
-        match read_chain(alloc, host, &current, &mut self.room) {
-            Ok(chain) => Ok(chain),
+        match read_chain(alloc, host, &current, &mut self.buffer) {
+            Ok((chain, _)) => Ok(chain),
             Err(GatherFault::NoMemory) => Err(JournalFault::NoMemory),
             Err(GatherFault::StoreFault) => {
                 self.failed = true;
@@ -113,13 +118,14 @@ impl Journal {
         requires placed { WhereTold (H.history host.old) (λ h. (s : Standing) × IsPlaced self.old h s) }
         ensures told { Tells (H.history host.old) (H.history host.new) (λ was now. (s : Standing)
             → IsPlaced self.old was s → Commits self.old self.new framed.now result s was now) }
-        ensures moved { OnOk result (self.new ≡ record self.old { end = self.old.end + length framed.now }) }
-        ensures fails { OnErr result (self.new ≡ failed_if true self.old) }
+        ensures moved { OnOk result (self.new ≡ record self.old { end = self.old.end + length framed.now; chain = None }) }
+        ensures fails { OnErr result (self.new ≡ record self.old { failed = true; chain = None }) }
         ensures cause { HasCause counts.Store (H.faults host.old) (H.faults host.new) result }
         ensures failed { Tells (H.history host.old) (H.history host.new) (Fails (is_err result)) }
         ensures stops { Stops (H.wanted host.old) (H.wanted host.new) (H.history host.old) (H.history host.new) }
     {
         self.failed = true;
+        self.chain = None;
         write_through(host, self.header.file, self.end + 1, framed)?;
         write_through(host, self.header.file, self.end, &[1])?;
         self.failed = false;

@@ -1,6 +1,7 @@
 //! The two files of a store: commit marks, records, and what a stop at any moment leaves of them.
 #![tactic(auto)]
 
+mod buffer;
 mod chain;
 mod creation;
 mod current;

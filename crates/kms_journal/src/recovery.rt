@@ -1,5 +1,5 @@
 // Opening a store that a stop may have left in the middle of anything.
-ghost use Rattle.std.specs.Prelude.{◌≡◌, ◌+◌, ◌<◌, ◌≤◌, ◌^◌, length, IfOk, is_err, false};
+ghost use Rattle.std.specs.Prelude.{◌≡◌, ◌+◌, ◌<◌, ◌≤◌, ◌^◌, [], IfOk, is_err, false};
 ghost use Rattle.kms_host.specs.Faults.{HasCause};
 ghost use Rattle.kms_host.specs.History.{Tells, WhereTold, Stops};
 ghost use Rattle.kms_host.specs.Store.{IsAttached};
@@ -12,21 +12,15 @@ ghost use Rattle.kms_journal.specs.Standing.{Standing};
 ghost use Rattle.kms_journal.specs.declared.fault.JournalFault.TheVariants as faults;
 ghost use Rattle.kms_journal.specs.Fault.{Fails, is_failed_opening};
 
+use crate::buffer::Buffer;
 use crate::current::find_current;
 use crate::gather::read_chain;
 use crate::header::{Current, is_based};
-use crate::journal::{Journal, ROOM};
+use crate::journal::Journal;
 use crate::through::{cut_through, write_through};
-use crate::walk::walk;
 use crate::{Bodies, Chain, JournalFault, Place, StoreFault};
 use kms_host::{Bytes, Host, NoMemory};
 use std::alloc::Global;
-
-fn new_room(alloc: Global) -> Result<Vec<u8>, NoMemory>
-    ensures { IfOk result (λ room. length room.items ≡ 65536) }
-{
-    Ok(vec![in alloc; 0u8; ROOM]?)
-}
 
 // Cuts a file behind its first commit mark that isn't set, and clears that mark. The cut has to be on the disk first: a
 // mark that a stop left set would bring back what stood behind it.
@@ -60,18 +54,18 @@ fn no_chain(alloc: Global, current: &Current) -> Result<Chain, NoMemory>
     })
 }
 
-// The place of the current file's last commit mark, if its snapshot and all its records are whole.
-fn find_end<H: Host>(
+// What the current file stands for, and the place of its last commit mark, if its snapshot and all its records are whole.
+fn check<H: Host>(
     alloc: Global,
     host: &mut H,
     current: &Current,
-    room: &mut [u8],
-) -> Result<u64, JournalFault>
+    buffer: &mut Buffer,
+) -> Result<(Chain, u64), JournalFault>
     requires sized { IsSized current.now }
     requires attached { WhereTold (H.history host.old) IsAttached }
-    requires room { 0 < length room.old }
+    requires buffer { buffer.old ≡ [] }
     ensures told { Tells (H.history host.old) (H.history host.new) (Checks current.now result) }
-    ensures within { IfOk result (λ end. (50 + current.now.header.snapshot ≤ end) × (end < current.now.size)) }
+    ensures within { IfOk result (λ found. (50 + current.now.header.snapshot ≤ found.1) × (found.1 < current.now.size)) }
     ensures cause { HasStoreCause faults.StoreFault (H.faults host.old) (H.faults host.new) result }
     ensures failed { Tells (H.history host.old) (H.history host.new) (Fails (is_failed_opening result)) }
     ensures stops { Stops (H.wanted host.old) (H.wanted host.new) (H.history host.old) (H.history host.new) }
@@ -81,16 +75,15 @@ fn find_end<H: Host>(
         let chain = no_chain(alloc, current)?;
         return Err(JournalFault::Damaged(Place::Body { file, at: 0 }, chain));
     }
-    let stop = walk(host, file, 50 + current.header.snapshot, current.size)?;
+    let (chain, stop) = read_chain(alloc, host, current, buffer)?;
     if stop.is_whole {
-        return Ok(stop.at);
+        return Ok((chain, stop.at));
     }
-    let chain = read_chain(alloc, host, current, room)?;
     Err(JournalFault::Damaged(Place::Body { file, at: stop.at }, chain))
 }
 
-/// Opens a store: finds the current file's first commit mark that isn't set, cuts the file behind it, syncs, clears it,
-/// and syncs.
+/// Opens a store: reads the current file up to its first commit mark that isn't set, cuts the file behind it, syncs,
+/// clears it, and syncs. The file is read in pieces of 65,536 bytes at most, each byte behind the header once.
 ///
 /// Answers NoStore exactly where no file has its first commit mark set before a whole header, and Damaged where a
 /// commit mark is set before a record that isn't whole. Neither changes anything, nor does being out of memory, and the
@@ -104,11 +97,11 @@ pub fn recover<H: Host>(alloc: Global, host: &mut H) -> Result<Journal, JournalF
     ensures failed { Tells (H.history host.old) (H.history host.new) (Fails (is_failed_opening result)) }
     ensures stops { Stops (H.wanted host.old) (H.wanted host.new) (H.history host.old) (H.history host.new) }
 {
-    let mut room = new_room(alloc)?;
+    let mut buffer = Buffer::new(alloc)?;
     let Some(current) = find_current(host)? else {
         return Err(JournalFault::NoStore);
     };
-    let end = find_end(alloc, host, &current, &mut room)?;
+    let (chain, end) = check(alloc, host, &current, &mut buffer)?;
     repair(host, current.header.file, end)?;
-    Ok(Journal::of(current.header, end, room))
+    Ok(Journal::of(current.header, end, buffer, chain))
 }

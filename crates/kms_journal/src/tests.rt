@@ -179,7 +179,7 @@ fn is_read(chain: &Chain) -> bool {
         && records[0].1.as_slice() == [8u8, 9].as_slice()
 }
 
-// Opens a fresh store with that record, and reads it while so many calls on its files pass.
+// Opens a fresh store with that record, and reads it twice, while so many calls on its files pass.
 fn reads_while(alloc: Global, host: &mut MemoryHost, passing: u64) -> bool
     requires { WhereTold (⟦<MemoryHost as Host>⟧.history host.old) IsAttached }
 {
@@ -190,20 +190,23 @@ fn reads_while(alloc: Global, host: &mut MemoryHost, passing: u64) -> bool
         return false;
     }
     host.fuse(passing);
+    let Ok(first) = journal.bodies(alloc, host) else {
+        return false;
+    };
     match journal.bodies(alloc, host) {
-        Ok(chain) => is_read(&chain),
+        Ok(second) => is_read(&first) && is_read(&second),
         Err(_) => false,
     }
 }
 
-// The snapshot and each record are read once, and so is each commit mark.
+// What the opening read is answered without a call, and a small store is read again in one.
 #[test]
-fn a_store_is_read_in_four_calls(rt: HostRuntime) -> Result<(), Fail> {
+fn a_store_is_read_again_in_one_call(rt: HostRuntime) -> Result<(), Fail> {
     let alloc = rt.alloc();
     let file = changed(alloc, 58, &[1, 0, 0, 0, 2, 8, 9, 0])?;
-    for passing in 0..5u64 {
+    for passing in 0..2u64 {
         let mut host = attached(alloc, &file, &[])?;
-        assert_eq!(rt; reads_while(alloc, &mut host, passing), passing == 4);
+        assert_eq!(rt; reads_while(alloc, &mut host, passing), passing == 1);
     }
     Ok(())
 }
@@ -235,11 +238,11 @@ fn opens<H: Host>(alloc: Global, host: &mut H) -> bool
     recover(alloc, host).is_ok()
 }
 
-// Opening this file 0, stopped behind so many calls, leaves one record; it takes ten calls.
+// Opening this file 0, stopped behind so many calls, leaves one record; it takes nine calls.
 fn keeps_the_record(alloc: Global, file: &[u8], passing: u64) -> Result<bool, NoMemory> {
     let mut host = attached(alloc, file, &[])?;
     host.fuse(passing);
-    let mut good = opens(alloc, &mut host) == (passing == 10);
+    let mut good = opens(alloc, &mut host) == (passing == 9);
     for pick in &PICKS {
         let found = left(alloc, &host, *pick)?;
         good = good && found == Found::Records(0, 1);
@@ -251,7 +254,7 @@ fn keeps_the_record(alloc: Global, file: &[u8], passing: u64) -> Result<bool, No
 fn a_recovery_stopped_at_each_call(rt: HostRuntime) -> Result<(), Fail> {
     let alloc = rt.alloc();
     let file = changed(alloc, 58, &STOPPED)?;
-    for passing in 0..11u64 {
+    for passing in 0..10u64 {
         assert!(rt; keeps_the_record(alloc, &file, passing)?);
     }
     Ok(())

@@ -1,9 +1,13 @@
-use Rattle.std.proofs.Common.{◌≡◌, ◌∙◌, ◌+◌, ℕ, List, length, ap, sym, arith}
+use Rattle.std.proofs.Common.{◌≡◌, ◌∙◌, ◌+◌, ◌≤◌, ℕ, List, length, ap, sym, subst, arith, false}
 use Rattle.std.proofs.lemmas.Result.{err_from_is_err_and}
+use Rattle.kms_host.specs.Disk.{reads}
+use Rattle.kms_host.specs.History.{History}
 use Rattle.kms_host.proofs.FaultLaws.{stops_then}
-use Rattle.kms_host.proofs.Moments.{tells_then, known_with_told}
-use Rattle.kms_journal.specs.Walk.{records_at}
+use Rattle.kms_host.proofs.Moments.{tells_then, tells_weaker, known_with_told}
+use Rattle.kms_journal.specs.Ahead.{IsAhead}
+use Rattle.kms_journal.specs.Walk.{records_at, StopsAs}
 use Rattle.kms_journal.specs.declared.chain.Chain.{Chain}
+use Rattle.kms_journal.proofs.AheadLaws.{ahead_none, ahead_later}
 use Rattle.kms_journal.proofs.ReadingLaws.{reading_then, attached_after, same_reads}
 use Rattle.kms_journal.proofs.gather.read_chain.Goals as goal
 
@@ -25,18 +29,21 @@ returns-in_err-bodies-clause-told g c =
 
 pub returns-clause-told : goal.returns-clause-told
 returns-clause-told g c =
+    let header = c.args.current.now.header in
+    let file = header.file in
+    let start = 50 + header.snapshot in
+    let buffer = c.read_part.new.buffer in
     tells_then _ c.in_ok-base.ensures.told c.in_ok-bodies.ensures.told
     (λ was mid now one two. record {
       throughout = reading_then was mid now one.throughout two.throughout;
       found = λ long.
-          let file = c.args.current.now.header.file in
           let same = same_reads was mid one.throughout file in
-          chain_parts _ _ _ _ (one.found (omega (arith, long, c.requires.within)))
-          (two.found (long ∙ ap length (sym same)) ∙ ap (λ (l : List ℕ). (records_at l (50 + c.args.current.now.header.snapshot)).items) same);
+          let within : start ≤ length (reads file was) = omega (arith, long, c.requires.within) in
+          let none : IsAhead file 50 c.args.buffer.now was = ahead_none file 50 c.args.buffer.now was c.requires.buffer in
+          let there : IsAhead file start buffer mid = ahead_later file start buffer was mid one.throughout (one.ahead none within) in
+          let found = two.found (long ∙ ap length (sym same)) there in
+          record {
+            chain = chain_parts file header.tag header.ids header.steps (one.part none within) (found.items ∙ ap (λ (l : List ℕ). (records_at l start).items) same);
+            stop = subst (λ (l : List ℕ). StopsAs l start c.in_ok-bodies.stop) same found.stop;
+          };
     })
-
-pub returns-in_err-bodies-clause-stops : goal.returns-in_err-bodies-clause-stops
-returns-in_err-bodies-clause-stops g c = stops_then c.read_part.ensures.stops c.gather.ensures.stops
-
-pub returns-clause-stops : goal.returns-clause-stops
-returns-clause-stops g c = stops_then c.read_part.ensures.stops c.gather.ensures.stops

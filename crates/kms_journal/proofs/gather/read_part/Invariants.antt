@@ -8,7 +8,7 @@ use Rattle.kms_journal.proofs.gather.read_part.Given as goal
 
 abbrev pub invariant-loop-done : goal.invariant-loop-done
 invariant-loop-done g l = record {
-  told : Tells (g.H.Host.history l.fn.host) (g.H.Host.history l.host) (ReadsSoFar l.file l.at l.size l.done l.part);
+  told : Tells (g.H.Host.history l.fn.host) (g.H.Host.history l.host) (ReadsSoFar l.file l.at l.size l.done l.fn.buffer l.buffer l.part);
   attached : WhereTold (g.H.Host.history l.host) IsAttached;
   within : l.done ≤ l.size;
   later : NeverFalls (g.H.Host.faults l.fn.host) (g.H.Host.faults l.host);

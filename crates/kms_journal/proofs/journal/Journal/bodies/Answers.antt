@@ -9,6 +9,6 @@ returns-in-Ok-clause-told g c =
     tells_weaker _ c.in-Ok.ensures.told
     (λ was now f s placed. record {
       throughout = f.throughout;
-      answer = f.found (placed_size i.header i.end i.failed c.args.self.now was s c.self.view_is c.self.invariant.0 placed)
-          ∙ placed_chain i.header i.end i.failed c.args.self.now was s c.self.view_is c.self.invariant.0 placed;
+      answer = (f.found (placed_size i.header i.end i.failed i.chain c.args.self.now was s c.self.view_is c.self.invariant.0 placed)).chain
+          ∙ placed_chain i.header i.end i.failed i.chain c.args.self.now was s c.self.view_is c.self.invariant.0 placed;
     })

@@ -1,4 +1,5 @@
 use Rattle.std.proofs.Common.{◌≡◌, ◌∙◌, ◌<◌, ◌+◌, ℕ, length, ap, sym, subst, Bool, false}
+use Rattle.std.specs.Prelude.{None}
 use Rattle.std.proofs.lemmas.Result.{err_from_is_err_and}
 use Rattle.kms_host.proofs.FaultLaws.{stops_then}
 use Rattle.kms_host.proofs.Moments.{tells_then, tells_weaker, known_with_told}
@@ -51,8 +52,8 @@ returns-clause-told g c =
     let f : c.self.inside.header.file ≡ p.file = ap (λ (q : Position). q.file) c.self.view_is in
     let e : c.self.inside.end ≡ p.end = ap (λ (q : Position). q.end) c.self.view_is in
     let lt : p.file < 2 = subst (λ (n : ℕ). n < 2) f c.self.invariant.0 in
-    let moved = ap (λ (q : Position). let x : Position = record q { end = q.end + length c.args.framed.now; failed = false } in x) c.self.view_is
-    ∙ ap (λ (b : Bool). let x : Position = record p { end = p.end + length c.args.framed.now; failed = b } in x) (sym c.requires.working) in
+    let moved = ap (λ (q : Position). let x : Position = record q { end = q.end + length c.args.framed.now; failed = false; chain = None } in x) c.self.view_is
+    ∙ ap (λ (b : Bool). let x : Position = record p { end = p.end + length c.args.framed.now; failed = b; chain = None } in x) (sym c.requires.working) in
     tells_then _ c.in_ok-write_through.ensures.told c.in_ok-write_through-2.ensures.told
     (λ was mid now one two s placed.
     second_done p _ c.args.framed.now was s lt placed c.requires.framed _ moved mid now
