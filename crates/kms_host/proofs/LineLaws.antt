@@ -1,12 +1,14 @@
 -- What two spans of calls mean, one after the other, and what a span of gives leaves as it was.
 use Rattle.std.proofs.Common.{◌≡◌, ℕ, ◌+◌, ◌≤◌, List, [], ◌∷◌, ◌++◌, take, Some, None, Bool, true, false, nat_eq, cond, refl, sym, ap, subst, eq-eqb, ◌∙◌, arith}
-use Rattle.std.specs.Prelude.{Option, ◌&&◌, ◌||◌}
+use Rattle.std.specs.Prelude.{Option, Result, ◌&&◌, ◌||◌}
 use Rattle.std.proofs.lemmas.List.{append_assoc, append-nil}
+use Rattle.std.proofs.lemmas.Option.{same_Some}
 use Rattle.kms_host.specs.History.{History, WhereTold, then_call}
 use Rattle.kms_host.specs.Moment.{then_calls}
 use Rattle.kms_host.specs.Line.{taken, sent, times, is_empty, at_end, failed_on, is_shut, opened, IsOpen, OnlyGives}
 use Rattle.kms_host.specs.declared.call.Call.{Call}
 use Rattle.kms_host.specs.declared.call.Call.TheVariants.{Text, Listened, Came, Attached, Took, Gave, Shut, OnFile, Told, Drew}
+use Rattle.kms_host.specs.declared.call.NameFault.{NameFault}
 use Rattle.kms_host.proofs.Moments.{then_calls-calls}
 
 grow : (b : Bool) (s t u : List ℕ) → cond b (s ++ t ++ u) (s ++ t) ≡ s ++ cond b (t ++ u) t
@@ -259,13 +261,22 @@ open-gave line l piece went was now is after = subst (IsOpen line) (sym after) (
 pub open-told : (line t : ℕ) (was now : History) → IsOpen line was → now ≡ then_call was (Told t) → IsOpen line now
 open-told line t was now is after = subst (IsOpen line) (sym after) (record { came = is.came; not_shut = is.not_shut })
 
+-- A line that came is open, unless it was shut before. Others that are open stay so, whatever comes.
+pub open-came : (line : ℕ) (was now : History) → line ≡ opened was.calls + 1 → is_shut line was.calls ≡ false → now ≡ then_call was (Came (Some (Some line))) → IsOpen line now
+open-came line was now next unshut after = subst (IsOpen line) (sym after) (record { came = omega (arith, next); not_shut = unshut })
+
+pub open-next : (line : ℕ) (next : Option (Option ℕ)) (was now : History) → IsOpen line was → now ≡ then_call was (Came next) → IsOpen line now
+open-next line None was now is after = subst (IsOpen line) (sym after) (record { came = is.came; not_shut = is.not_shut })
+open-next line (Some None) was now is after = subst (IsOpen line) (sym after) (record { came = is.came; not_shut = is.not_shut })
+open-next line (Some (Some other)) was now is after = subst (IsOpen line) (sym after) (record { came = omega (arith, is.came); not_shut = is.not_shut })
+
+pub open-listened : (line : ℕ) (address : List ℕ) (done : Result (Unit {0}) NameFault) (was now : History) → IsOpen line was → now ≡ then_call was (Listened address done) → IsOpen line now
+open-listened line address done was now is after = subst (IsOpen line) (sym after) (record { came = is.came; not_shut = is.not_shut })
+
 -- line 0 is open where there was no call
 pub open_at_first : (h : Option History) (opening : List ℕ × List ℕ) (key_files : List (List ℕ × List ℕ)) → h ≡ Some (record { opening = opening; key_files = key_files; calls = [] }) → WhereTold h (IsOpen 0)
 open_at_first h opening key_files fresh = record {
   told = λ now is.
       let first : History = record { opening = opening; key_files = key_files; calls = [] } in
-      subst (IsOpen 0) (some_is first now (sym fresh ∙ is)) (record { came = omega arith; not_shut = refl });
+      subst (IsOpen 0) (same_Some first now (sym fresh ∙ is)) (record { came = omega arith; not_shut = refl });
 }
-  where
-    some_is : (a b : History) → Some a ≡ Some b → a ≡ b
-    some_is a b is = grind (arith, is)

@@ -41,7 +41,7 @@ abbrev pub torn_byte : ℕ → Disk → ℕ → ℕ
 torn_byte value d k = if nat_lt k (length d.base) && is_outside k d.ranges then slice_index d.base k else value
 
 -- The image that is picked of a file: as it reads, as it was at the last sync, or of the greatest length that it may have
--- had since and with one value in each place that was written since or lies behind the end at that sync.
+-- had since and with one value in each place that was written since or lies after the end at that sync.
 abbrev pub IsPicked : Pick → Disk → List ℕ → Type 0
 IsPicked Kept d image = image ≡ d.reads
 IsPicked Lost d image = image ≡ d.base

@@ -7,6 +7,7 @@ pub mod KeyFiles
 pub mod Line
 pub mod Memory
 pub mod Moment
+pub mod Net
 pub mod Possible
 pub mod Random
 pub mod Recording

@@ -133,7 +133,7 @@ OnlyGives line (OnFile file c ∷ calls) = ⊥
 OnlyGives line (Told t ∷ calls) = ⊥
 OnlyGives line (Drew purpose bytes ∷ calls) = ⊥
 
--- the newest call isn't one that takes from a line or gives to it behind a failed call of that line
+-- the newest call isn't one that takes from a line or gives to it after a failed call of that line
 abbrev pub IsStill : List Call → Type 0
 IsStill [] = Unit {0}
 IsStill (Text name room bytes ∷ calls) = Unit {0}

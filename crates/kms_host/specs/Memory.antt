@@ -21,7 +21,7 @@ pub record Counted : Type 0 where
   pub fuse : Option ℕ
   pub faults : ℕ
 
--- a call of this number comes behind the last one that passes
+-- a call of this number comes after the last one that passes
 abbrev pub is_past : ℕ → Option ℕ → Bool
 is_past n None = false
 is_past n (Some last) = nat_lt last n
@@ -120,7 +120,7 @@ pub record Draws : Type 0 where
   pub listed : List ℕ
   pub count : ℕ
 
--- The byte that is drawn after so many: behind the listed ones it is their number modulo 256. The count stands still at
+-- The byte that is drawn after so many: after the listed ones it is their number modulo 256. The count stands still at
 -- the last value of 64 bits.
 abbrev pub byte_after : ℕ → Draws → ℕ
 byte_after n d = let j = min (d.count + n) (2 ^ 64 - 1) in slice_index_or d.listed j (j % 256)
@@ -133,7 +133,7 @@ AreDrawn d bytes = (n : ℕ) → n < length bytes → slice_index bytes n ≡ by
 abbrev pub drawing : ℕ → Draws → Draws
 drawing n d = record d { count = min (d.count + n) (2 ^ 64 - 1) }
 
--- with these bytes listed behind the others
+-- with these bytes listed after the others
 abbrev pub listing_bytes : List ℕ → Draws → Draws
 listing_bytes bytes d = record d { listed = d.listed ++ bytes }
 

@@ -12,6 +12,9 @@ ghost use Rattle.kms_host.specs.declared.call.Count.TheVariants as counts;
 
 use crate::{Failed, NameFault, Purpose};
 
+/// A file's length in bytes is below this.
+pub(crate) const LENGTH_LIMIT: u64 = 1 << 62;
+
 /// The outside of the key manager: key files, the two files of a store, numbered lines that bytes come from and go to,
 /// a clock, and random bytes.
 ///
@@ -53,7 +56,7 @@ pub trait Host {
         ensures stops { Stops (wanted self.old) (wanted self.new) (history self.old) (history self.new) };
 
     /// The next line, by its number: 1 at first, and then one more than the line before. None where no more come, as
-    /// behind line 4,294,967,295. Line 0 is there from the start.
+    /// after line 4,294,967,295. Line 0 is there from the start.
     fn next_line(&mut self) -> Result<Option<u32>, Failed>
         ensures told { Tells (history self.old) (history self.new) (λ was now.
             (now ≡ then_call was (calls.Came (answer result)))

@@ -84,7 +84,7 @@ pub fn count_fault(counter: &mut Counter, counted: bool)
     }
 }
 
-// A call of this number comes behind the last one that passes.
+// A call of this number comes after the last one that passes.
 fn is_past(call: u64, fuse: Option<u64>) -> bool
     ensures { result ≡ is_past call fuse }
 {

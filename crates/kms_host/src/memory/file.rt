@@ -5,12 +5,10 @@ ghost use Rattle.kms_host.specs.Disk.{at_rest, after_cut, put, MayLeave};
 ghost use Rattle.kms_host.specs.File.{HasWritten, IsPicked, is_outside, torn_byte};
 ghost use Rattle.kms_host.specs.declared.memory.file.Written.TheVariants as written;
 
+use crate::host::LENGTH_LIMIT;
 use crate::{Bytes, NoMemory, Pick};
 use std::alloc::Global;
 use std::marker::Model;
-
-/// A file's length in bytes is below this.
-pub const LENGTH_LIMIT: u64 = 1 << 62;
 
 /// How a write came out that was begun.
 #[derive(Clone, Copy, PartialEq, Eq)]

@@ -119,7 +119,7 @@ impl MemoryHost {
         Ok(())
     }
 
-    /// Lists bytes that are drawn for a purpose, behind those that were listed for it before. Where none is listed, the
+    /// Lists bytes that are drawn for a purpose, after those that were listed for it before. Where none is listed, the
     /// byte that is drawn after n others is n modulo 256.
     pub fn random(&mut self, purpose: Purpose, bytes: &[u8]) -> Result<(), NoMemory>
         ensures ok { OnOk result (self.new ≡ record self.old {

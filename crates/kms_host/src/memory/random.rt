@@ -1,4 +1,4 @@
-// Random bytes of a host in memory: those that were listed, and behind them a plain count.
+// Random bytes of a host in memory: those that were listed, and after them a plain count.
 ghost use Rattle.std.specs.Prelude.{◌≡◌, ◌≤◌, OnOk, OnErr, length};
 ghost use Rattle.kms_host.specs.Memory.{undrawn, byte_after, AreDrawn, drawing, listing_bytes, draws_for, with_draws};
 
@@ -31,7 +31,7 @@ impl Stream {
         }
     }
 
-    // Lists bytes behind the others.
+    // Lists bytes after the others.
     fn list(&mut self, bytes: &[u8]) -> Result<(), NoMemory>
         ensures ok { OnOk result (self.new ≡ listing_bytes bytes.now self.old) }
         ensures err { OnErr result (self.new ≡ self.old) }
@@ -92,7 +92,7 @@ impl Streams {
         }
     }
 
-    /// Lists bytes for a purpose, behind those that were listed for it before.
+    /// Lists bytes for a purpose, after those that were listed for it before.
     pub fn list(&mut self, purpose: Purpose, bytes: &[u8]) -> Result<(), NoMemory>
         ensures ok { OnOk result (self.new ≡ with_draws purpose (listing_bytes bytes.now (draws_for purpose self.old)) self.old) }
         ensures err { OnErr result (self.new ≡ self.old) }

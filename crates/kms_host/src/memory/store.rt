@@ -7,8 +7,9 @@ ghost use Rattle.kms_host.specs.Recording.{NotesOn, Counts};
 ghost use Rattle.kms_host.specs.declared.call.Call.TheVariants as calls;
 ghost use Rattle.kms_host.specs.declared.call.FileCall.TheVariants as on;
 
+use crate::host::LENGTH_LIMIT;
 use crate::memory::counter::{Counter, count_fault};
-use crate::memory::file::{File, LENGTH_LIMIT, Written, fill_from};
+use crate::memory::file::{File, Written, fill_from};
 use crate::memory::log::Log;
 use crate::{Bytes, Call, Failed, FileCall, NoMemory};
 use std::alloc::Global;
@@ -88,7 +89,7 @@ fn wrote_not(alloc: Global, file: u8, at: u64, piece: &[u8], left: &[u8]) -> Res
     Ok(Call::OnFile(file, FileCall::Wrote(at, piece, Some(left))))
 }
 
-// A write of so many bytes at a place would end at the limit of a file's length or behind it.
+// A write of so many bytes at a place would end at the limit of a file's length or after it.
 fn is_too_long(at: u64, length: usize) -> bool
     ensures { result ≡ nat_le (2 ^ 62) (at + length) }
 {

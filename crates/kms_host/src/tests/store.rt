@@ -1,19 +1,21 @@
 // The files of a store in memory: what is written and cut, and what a stop may leave of it; key files and random bytes.
-ghost use Rattle.std.specs.Prelude.{◌≡◌, ◌<◌, IsTrue, IfOk, false};
+ghost use Rattle.std.specs.Prelude.{◌≡◌, ◌<◌, [], IsTrue, IfOk};
 ghost use Rattle.kms_host.specs.History.{WhereTold};
-ghost use Rattle.kms_host.specs.Store.{IsAttached, is_attached};
+ghost use Rattle.kms_host.specs.Store.{IsAttached, OnlyAttached};
 
 use crate::{Bytes, Count, Failed, Host, MemoryHost, NoMemory, Pick, Purpose};
 use std::alloc::Global;
 use std::rt::HostRuntime;
 use std::test::Fail;
 
-// Whether the store could be named.
+// Whether the store could be named, once and once more.
 fn attaches<H: Host>(host: &mut H) -> bool
-    requires { WhereTold (H.history host.old) (λ h. is_attached h.calls ≡ false) }
+    requires { WhereTold (H.history host.old) (λ h. h.calls ≡ []) }
     ensures { IsTrue result → WhereTold (H.history host.new) IsAttached }
 {
-    host.attach("store").is_ok()
+    let first = host.attach("store").is_ok();
+    let again = host.attach("store").is_ok();
+    first & again
 }
 
 // A write within a file that is at least so long.
@@ -72,7 +74,7 @@ fn leaves(host: &MemoryHost, pick: Pick, first: &[u8], second: &[u8]) -> bool {
 }
 
 fn store(alloc: Global) -> Result<MemoryHost, NoMemory>
-    ensures { IfOk result (λ m. WhereTold m.history (λ h. is_attached h.calls ≡ false)) }
+    ensures { IfOk result (λ m. WhereTold m.history (λ h. h.calls ≡ [])) }
 {
     let first = Bytes::of(alloc, b"abc")?;
     let second = Bytes::of(alloc, b"")?;
@@ -112,7 +114,7 @@ fn left_synced(host: &MemoryHost) -> bool {
         & leaves(host, Pick::Torn(7), b"aXYZ", b"\x07")
 }
 
-// Behind two calls more each call on the store fails.
+// After two calls more each call on the store fails.
 fn fails<H: Host>(host: &mut H) -> bool
     requires { WhereTold (H.history host.old) IsAttached }
     ensures { WhereTold (H.history host.new) IsAttached }
