@@ -3,6 +3,7 @@ ghost use Rattle.std.specs.Prelude.{◌≡◌, ℕ, ◌<◌, ◌^◌, IfOk, Some
 ghost use Rattle.kms_world.specs.State.{State};
 ghost use Rattle.kms_world.specs.Times.{HasTimes, IsTimely};
 ghost use Rattle.kms_model.specs.Ask.{answer_to, state_after, stores};
+ghost use Rattle.kms_model.specs.Secrets.{next_id};
 ghost use Rattle.kms_host.specs.Faults.{HasCause};
 ghost use Rattle.kms_host.specs.History.{Tells, WhereTold, Stops};
 ghost use Rattle.kms_host.specs.declared.call.Count.TheVariants as counts;
@@ -14,10 +15,11 @@ ghost use Rattle.kms_core.specs.Settling.{IsOpened, Settles};
 ghost use Rattle.kms_core.specs.Waiting.{count_of, with_waiting, with_failed};
 
 use crate::opened::Opened;
+use crate::step::refused;
 use crate::{AskFault, Asked, Step};
 use kms_host::Host;
 use kms_journal::StoreFault;
-use kms_world::{Answer, Caller, Op, SecretRow};
+use kms_world::{Caller, Op, Refusal, SecretRow};
 use std::alloc::Global;
 use std::marker::Model;
 
@@ -47,8 +49,8 @@ impl Model for Engine {
 
 impl Engine {
     /// The plain key manager's answer to an operation of a caller at a time in seconds since 1970, and the step that
-    /// it needs: one exactly where the operation is accepted and writes. No row changes. After a fault nothing has
-    /// changed. Fewer than 1,152 accepted steps may wait to be settled.
+    /// it needs: one exactly where the operation is accepted and writes. An operation that isn't served is refused as a path
+    /// that isn't there. No row changes. After a fault nothing has changed. Fewer than 1,152 accepted steps may wait to be settled.
     pub fn ask<H: Host>(
         &mut self,
         host: &mut H,
@@ -69,11 +71,9 @@ impl Engine {
     {
         match op {
             Op::PostSecret { body: Ok(body) } => self.post_secret(caller, body, moment),
-            Op::PostSecret { body: Err(refusal) } => Ok(Asked {
-                answer: Answer::Refused(refusal),
-                step: None,
-            }),
-            Op::GetSecret { id } => self.get_secret(caller, id, moment),
+            Op::PostSecret { body: Err(refusal) } => Ok(refused(refusal)),
+            Op::GetSecret { id, .. } => self.get_secret(caller, id, moment),
+            _ => Ok(refused(Refusal::NoRoute)),
         }
     }
 
@@ -81,6 +81,7 @@ impl Engine {
     pub fn accept(&mut self, step: Step)
         requires room { IsTrue self.old.room }
         requires ids { self.old.state.ids < 2 ^ 62 }
+        requires id { step.secret.id ≡ next_id self.old.state }
         requires times { IsTimely step.secret }
         ensures state { self.new.state ≡ after_step self.old.state step }
         ensures store { self.new.store ≡ with_waiting (Some step.waiting) self.old.store }

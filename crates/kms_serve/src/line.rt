@@ -20,8 +20,7 @@ use crate::status::Status;
 use kms_core::Engine;
 use kms_host::Host;
 use kms_http::{Read, Reader, Request};
-use kms_model::Request as Asked;
-use kms_world::{NoMemory, Refusal};
+use kms_world::{NoMemory, Refusal, Request as Asked};
 use std::alloc::Global;
 
 /// A line is served up to this number of requests.

@@ -21,8 +21,7 @@ use kms_core::{Asked, Engine, Step};
 use kms_host::Host;
 use kms_http::print;
 use kms_json::answer as reply_to;
-use kms_model::Request;
-use kms_world::{Answer, Bytes, NoMemory};
+use kms_world::{Answer, Bytes, NoMemory, Request};
 use std::alloc::Global;
 
 // The last second of the year 9999.
