@@ -57,14 +57,16 @@ refused fault e was now r o = record { throughout = o.throughout; answer = by_fa
         subst (λ (x : StartFault). IsRefusal x was) (sym r.1)
         (s, r.0, a.1, ap (λ (c : Chain). Body c.file r.0) a.4, first_damage s r.0 a.2 first)
 
-placed_after : (p : Position) (s : Standing) (mid now : History) → Throughout (IsUntouched mid) mid now → IsPlaced p mid s → IsPlaced p now s
+-- where what the opening read was taken
+placed_after : (p : Position) (s : Standing) (mid now : History) → Throughout (IsUntouched mid) mid now → IsPlaced p mid s → IsPlaced (record p { chain = None }) now s
 placed_after p s mid now t placed =
     let same = same_reads mid now t s.file in
     record {
       attached = attached_after mid now t placed.attached;
       current = ap standing_of (same_files mid now (at_last (IsUntouched mid) mid now t)) ∙ placed.current;
       whole = placed.whole;
-      here = placed.here;
+      here = ap (λ (x : Position). record x { chain = None }) placed.here;
+      read = tt;
       last = ap length same ∙ placed.last;
       clear = ap (λ (l : List ℕ). get_or l s.stop 0) same ∙ placed.clear;
     }
@@ -113,7 +115,7 @@ module _ (p : Position) (was mid now : History) (o : OpensJournal (Ok p) was mid
             let s = o.answer.0 in
             (s, l.0, o.answer.1, l.1 ∙ ap (λ (c : Chain). Body c.file l.0) g.answer, broken_store s l.0 (subst (λ (c : Chain). IsBrokenAt c l.0) g.answer l.2))
 
-    pub started_at : (kept : Kept) (engine : Held) → Loads chain (Ok kept) → engine ≡ record { state = kept.state; room = false; store = record { journal = p; waiting = None } } → Starts (Ok engine) was now
+    pub started_at : (kept : Kept) (engine : Held) → Loads chain (Ok kept) → engine ≡ record { state = kept.state; room = false; store = record { journal = record p { chain = None }; waiting = None } } → Starts (Ok engine) was now
     started_at kept engine l is =
         let s = o.answer.0 in
         let g = gathers s o.answer.2 in

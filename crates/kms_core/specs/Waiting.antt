@@ -5,7 +5,7 @@ use Rattle.kms_world.specs.State.{State}
 use Rattle.kms_record.specs.declared.change.Change.{Change}
 use Rattle.kms_record.specs.Grammar.{AreSteps, step_bytes}
 use Rattle.kms_record.specs.Kept.{after_record}
-use Rattle.kms_journal.specs.Position.{Position, failed_if}
+use Rattle.kms_journal.specs.Position.{Position}
 use Rattle.kms_core.specs.Stands.{kept_as}
 
 -- so many steps, and their spellings, one behind the other
@@ -42,4 +42,4 @@ with_waiting waiting k = record { journal = k.journal; waiting = waiting }
 
 -- with a journal that has failed
 abbrev pub with_failed : Keeping → Keeping
-with_failed k = record { journal = failed_if true k.journal; waiting = k.waiting }
+with_failed k = record { journal = record k.journal { failed = true; chain = None }; waiting = k.waiting }

@@ -111,6 +111,7 @@ settled_same engine n was now same s =
           current = ap standing_of (same_files was now same) ∙ p.current;
           whole = p.whole;
           here = p.here;
+          read = p.read;
           last = ap length here ∙ p.last;
           clear = ap (λ (l : List ℕ). get_or l o.standing.stop 0) here ∙ p.clear;
         };
