@@ -7,7 +7,8 @@ use Rattle.kms_world.specs.State.{State}
 use Rattle.kms_record.specs.declared.change.Change.{Change}
 use Rattle.kms_record.specs.Grammar.{IsRecord}
 use Rattle.kms_record.specs.GrammarReading.{record_of}
-use Rattle.kms_record.specs.Kept.{Kept, after_record}
+use Rattle.kms_record.specs.Kept.{Kept}
+use Rattle.kms_record.specs.SecretsOnly.{after_secret_record}
 use Rattle.kms_record.proofs.Codec.{IsBytes-drop, IsBytes-take}
 use Rattle.kms_record.proofs.GrammarLaws.{record_read, record_again}
 use Rattle.kms_journal.specs.Answers.{chain_of}
@@ -60,7 +61,7 @@ one_more item items stop is_whole kept next applies (inl fine) = inl (fine.0, (n
 one_more item items stop is_whole kept next applies (inr bad) = inr (bad.0, inr (next, applies, bad.1))
 
 by_kept : (item : ℕ × List ℕ) (items : List (ℕ × List ℕ)) (stop : ℕ) (is_whole : Bool) (kept : Kept) (steps : List (List Change)) → IsRecord item.1 steps → (o : Option Kept)
-    → after_record steps kept ≡ o → ((next : Kept) → Walked items stop is_whole next) → Walked (item ∷ items) stop is_whole kept
+    → after_secret_record steps kept ≡ o → ((next : Kept) → Walked items stop is_whole next) → Walked (item ∷ items) stop is_whole kept
 by_kept item items stop is_whole kept steps is None e later = inr (item.0, inl (broken_by item.1 steps kept is e, refl))
 by_kept item items stop is_whole kept steps is (Some next) e later = one_more item items stop is_whole kept next (record { steps = steps; read = is; leads = e }) (later next)
 
@@ -70,7 +71,7 @@ unread bytes kept e steps is = let no : Some steps ≡ None = sym (record_again 
 by_reading : (item : ℕ × List ℕ) (items : List (ℕ × List ℕ)) (stop : ℕ) (is_whole : Bool) (kept : Kept) → IsBytes item.1 → (o : Option (List (List Change))) → record_of item.1 ≡ o
     → ((next : Kept) → Walked items stop is_whole next) → Walked (item ∷ items) stop is_whole kept
 by_reading item items stop is_whole kept bytes None e later = inr (item.0, inl (unread item.1 kept e, refl))
-by_reading item items stop is_whole kept bytes (Some steps) e later = by_kept item items stop is_whole kept steps (record_read item.1 steps bytes e) (after_record steps kept) refl later
+by_reading item items stop is_whole kept bytes (Some steps) e later = by_kept item items stop is_whole kept steps (record_read item.1 steps bytes e) (after_secret_record steps kept) refl later
 
 walked : (items : List (ℕ × List ℕ)) → AreBytes items → (stop : ℕ) (is_whole : Bool) (kept : Kept) → Walked items stop is_whole kept
 walked [] bytes stop true kept = inl (kept, refl, refl)

@@ -5,7 +5,8 @@ use Rattle.kms_world.specs.State.{State, empty_state}
 use Rattle.kms_record.specs.declared.change.Change.{Change}
 use Rattle.kms_record.specs.Fields.{u64_bytes}
 use Rattle.kms_record.specs.Grammar.{IsRecord, IsSnapshot, AreSteps, record_bytes}
-use Rattle.kms_record.specs.Kept.{Kept, after_record}
+use Rattle.kms_record.specs.Kept.{Kept}
+use Rattle.kms_record.specs.SecretsOnly.{after_secret_record}
 use Rattle.kms_record.proofs.GrammarLaws.{record_again}
 use Rattle.kms_journal.specs.Commit.{frame}
 use Rattle.kms_journal.specs.Create.{fresh, no_changes}
@@ -21,7 +22,7 @@ one_reading bytes a b p q = some_is a b (sym (record_again bytes a p) ∙ record
 
 pub applies_once : (bytes : List ℕ) (kept a b : Kept) → Applies bytes kept a → Applies bytes kept b → a ≡ b
 applies_once bytes kept a b p q =
-    some_is a b (sym p.leads ∙ ap (λ (steps : List (List Change)). after_record steps kept) (one_reading bytes p.steps q.steps p.read q.read) ∙ q.leads)
+    some_is a b (sym p.leads ∙ ap (λ (steps : List (List Change)). after_secret_record steps kept) (one_reading bytes p.steps q.steps p.read q.read) ∙ q.leads)
 
 pub leads_once : (items : List (ℕ × List ℕ)) (kept a b : Kept) → LeadTo items kept a → LeadTo items kept b → a ≡ b
 leads_once [] kept a b p q = sym p ∙ q
@@ -88,7 +89,7 @@ lead_on [] item kept mid after p last = (after, subst (λ (k : Kept). Applies it
 lead_on (x ∷ items) item kept mid after p last = (p.0, p.1, lead_on items item p.0 mid after p.2 last)
 
 pub record_leads : (s : Standing) (before after : Kept) (steps : List (List Change)) → KeptOf s before → AreSteps steps → length (record_bytes steps) < 2 ^ 32
-    → after_record steps before ≡ Some after → KeptOf (with_framed s (frame (record_bytes steps))) after
+    → after_secret_record steps before ≡ Some after → KeptOf (with_framed s (frame (record_bytes steps))) after
 record_leads s before after steps kept admitted short leads =
     let bytes = record_bytes steps in
     let last : Applies (record_in (1 ∷ frame bytes)) before after = record { steps = steps; read = record { spelled = frame_holds bytes short; admitted = admitted }; leads = leads } in
@@ -104,5 +105,5 @@ record_counts s n steps p admitted short =
     let bytes = record_bytes steps in
     (p.0 + length steps, more_steps s.records (s.stop, record_in (1 ∷ frame bytes)) p.0 steps p.1 (record { spelled = frame_holds bytes short; admitted = admitted }), omega (arith, p.2))
 
-pub broken_by : (bytes : List ℕ) (steps : List (List Change)) (kept : Kept) → IsRecord bytes steps → after_record steps kept ≡ None → IsBroken bytes kept
-broken_by bytes steps kept is none other read = ap (λ (s : List (List Change)). after_record s kept) (one_reading bytes other steps read is) ∙ none
+pub broken_by : (bytes : List ℕ) (steps : List (List Change)) (kept : Kept) → IsRecord bytes steps → after_secret_record steps kept ≡ None → IsBroken bytes kept
+broken_by bytes steps kept is none other read = ap (λ (s : List (List Change)). after_secret_record s kept) (one_reading bytes other steps read is) ∙ none

@@ -8,18 +8,19 @@ use Rattle.kms_world.specs.State.{State}
 use Rattle.kms_record.specs.declared.change.Change.{Change}
 use Rattle.kms_record.specs.Fields.{u32_bytes}
 use Rattle.kms_record.specs.Grammar.{IsStep, IsStepInRange, step_bytes, record_bytes}
-use Rattle.kms_record.specs.Kept.{after_step, after_record}
+use Rattle.kms_record.specs.SecretsOnly.{after_secret_step, after_secret_record}
 use Rattle.kms_record.specs.declared.change.Change.TheVariants.{SecretPut}
 use Rattle.kms_record.specs.declared.secret_put.SecretPut as put_type
 use Rattle.kms_record.specs.SecretPut.{put_of}
-use Rattle.kms_record.proofs.KeptLaws.{record-append, new_secret_is_kept}
+use Rattle.kms_record.proofs.KeptLaws.{secret_record-append, new_secret_is_kept}
 use Rattle.kms_world.specs.declared.secret.SecretRow.{SecretRow}
 use Rattle.kms_world.specs.Effect as effects
 use Rattle.kms_world.specs.Effect.{after_effect, ids_with}
 use Rattle.kms_world.specs.declared.id.Id.{Id}
 use Rattle.kms_model.specs.Secrets.{next_id}
-use Rattle.std.specs.Prelude.{Result, Ok, Err, IfOk, OnOk}
+use Rattle.std.specs.Prelude.{Result, Ok, Err, IfOk, OnOk, sum_by}
 use Rattle.kms_core.specs.Spelling.{IsNew, LeadsBehind}
+use Rattle.kms_record.specs.Size.{most_bytes}
 use Rattle.kms_record.proofs.SizeLaws.{step_is_short_lem}
 use Rattle.kms_journal.specs.Commit.{frame}
 use Rattle.kms_core.specs.Stands.{kept_as}
@@ -35,8 +36,8 @@ framed_is count steps a b f1 f2 f3 f4 a_is b_is e1 e2 e3 e4 =
     e4 ∙ ap (λ (l : List ℕ). l ++ 0 ∷ []) (e3 ∙ ap (λ (l : List ℕ). l ++ steps) second)
     ∙ ap (λ (n : ℕ). to_be_bytes w32 n ++ (to_be_bytes w32 count ++ steps) ++ 0 ∷ []) size
 
-pub short_more : (n : ℕ) (before out : List ℕ) (step : List Change) → IsStepInRange step → length step ≡ 1 → out ≡ before ++ step_bytes step → length before ≤ 946 * n → length out ≤ 946 * (n + 1)
-short_more n before out step range one is short = omega (arith, step_is_short_lem step range, one, ap length is, length-append before (step_bytes step), short)
+pub short_more : (n : ℕ) (before out : List ℕ) (step : List Change) → IsStepInRange step → sum_by most_bytes step ≤ 944 → out ≡ before ++ step_bytes step → length before ≤ 946 * n → length out ≤ 946 * (n + 1)
+short_more n before out step range few is short = omega (arith, step_is_short_lem step range, few, ap length is, length-append before (step_bytes step), short)
 
 pub short_fits : (n : ℕ) (out : List ℕ) → n < 1152 → length out ≤ 946 * (n + 1) → length out + 4 < 2 ^ 32
 short_fits n out lt short = omega (arith, lt, short)
@@ -47,14 +48,14 @@ all_push {A} P (y ∷ ys) x each last = (each.0, all_push P ys x each.1 last)
 
 -- one step more behind those that wait
 pub ahead_by_one : (before : Option Spelled) (s : Spelled) (step : List Change) (settled state next : State) → s.count ≡ count_of before + 1 → s.count ≤ 1152
-    → s.steps ≡ steps_of before ++ step_bytes step → IsStep step → after_step step (kept_as state) ≡ Some (kept_as next) → IsAhead before settled state → IsAhead (Some s) settled next
+    → s.steps ≡ steps_of before ++ step_bytes step → IsStep step → after_secret_step step (kept_as state) ≡ Some (kept_as next) → IsAhead before settled state → IsAhead (Some s) settled next
 ahead_by_one None s step settled state next count most spelled is leads ahead = (
   step ∷ [],
   record { count = count; spelled = spelled ∙ sym (append-nil (step_bytes step)); admitted = record { some = omega arith; few = omega arith; each = (is, tt) } },
   one,
 )
   where
-    one : after_record (step ∷ []) (kept_as settled) ≡ Some (kept_as next)
+    one : after_secret_record (step ∷ []) (kept_as settled) ≡ Some (kept_as next)
     one = rw (sym ahead, leads) refl
 ahead_by_one (Some b) s step settled state next count most spelled is leads ahead =
     let steps = ahead.0 in
@@ -68,8 +69,8 @@ ahead_by_one (Some b) s step settled state next count most spelled is leads ahea
       all,
     )
   where
-    all : after_record (ahead.0 ++ step ∷ []) (kept_as settled) ≡ Some (kept_as next)
-    all = record-append ahead.0 (step ∷ []) (kept_as settled) ∙ (rw (ahead.2, leads) refl)
+    all : after_secret_record (ahead.0 ++ step ∷ []) (kept_as settled) ≡ Some (kept_as next)
+    all = secret_record-append ahead.0 (step ∷ []) (kept_as settled) ∙ (rw (ahead.2, leads) refl)
 
 -- the bytes are those of the record
 pub record_is : (s : Spelled) (steps : List (List Change)) → Spells s steps → u32_bytes s.count ++ s.steps ≡ record_bytes steps
@@ -99,9 +100,9 @@ leads_behind before count row put step s put_is step_is one most spelled is = (
   λ settled state ids new ahead. ahead_by_one before s step settled state (after_effect (effects.SecretPut row) state) one most spelled is (leads state ids new) ahead,
 )
   where
-    leads : (state : State) → state.ids ≡ count → IsNew state row → after_step step (kept_as state) ≡ Some (kept_as (after_effect (effects.SecretPut row) state))
+    leads : (state : State) → state.ids ≡ count → IsNew state row → after_secret_step step (kept_as state) ≡ Some (kept_as (after_effect (effects.SecretPut row) state))
     leads state ids new =
-        ap (λ (st : List Change). after_step st (kept_as state)) (step_is ∙ ap (λ (p : put_type.SecretPut). let l : List Change = SecretPut p ∷ [] in l) (put_is ∙ ap (λ (n : ℕ). put_of n row) (sym ids)))
+        ap (λ (st : List Change). after_secret_step st (kept_as state)) (step_is ∙ ap (λ (p : put_type.SecretPut). let l : List Change = SecretPut p ∷ [] in l) (put_is ∙ ap (λ (n : ℕ). put_of n row) (sym ids)))
         ∙ (rw (new_secret_is_kept (kept_as state) row new.left new.id new.payload new.metadata) refl)
         ∙ sym (ap (λ (x : State). Some (kept_as x)) (one_secret_more state row new.id))
 

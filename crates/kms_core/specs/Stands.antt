@@ -3,17 +3,20 @@ use Rattle.std.specs.Prelude.{◌≡◌, ◌⊎◌, ℕ, ◌+◌, ◌<◌, ◌�
 use Rattle.kms_world.specs.State.{State, empty_state}
 use Rattle.kms_record.specs.declared.change.Change.{Change}
 use Rattle.kms_record.specs.Grammar.{IsRecord, IsSnapshot}
-use Rattle.kms_record.specs.Kept.{Kept, after_record}
+use Rattle.kms_record.specs.Kept.{Kept}
+use Rattle.kms_record.specs.SecretsOnly.{after_secret_record}
 use Rattle.kms_journal.specs.Standing.{Standing, standing_of}
 
+-- what is kept of a state without payloads: there are no keys
 abbrev pub kept_as : State → Kept
-kept_as state = record { state = state }
+kept_as state = record { state = state; keys = [] }
 
--- the bytes are a record whose steps apply, and this is kept after them
+-- The bytes are a record whose steps apply, and this is kept after them. Changes other than those that put secrets aren't
+-- taken yet: a record that has one doesn't apply.
 pub record Applies (bytes : List ℕ) (kept after : Kept) : Type 0 where
   pub steps : List (List Change)
   pub read : IsRecord bytes steps
-  pub leads : after_record steps kept ≡ Some after
+  pub leads : after_secret_record steps kept ≡ Some after
 
 -- each record applies, one after the other, and this is kept after the last
 abbrev pub LeadTo : List (ℕ × List ℕ) → Kept → Kept → Type 0
@@ -22,7 +25,7 @@ LeadTo (item ∷ items) kept after = (next : Kept) × Applies item.1 kept next �
 
 -- nothing is kept, under a tag and where so many ids were given
 abbrev pub kept_first : ℕ → ℕ → Kept
-kept_first tag ids = record { state = record (empty_state tag) { ids = ids } }
+kept_first tag ids = record { state = record (empty_state tag) { ids = ids }; keys = [] }
 
 -- The tag and the number of ids are in range, and the snapshot is the one with no changes.
 pub record IsEmptySnapshot (tag ids : ℕ) (snapshot : List ℕ) : Type 0 where
@@ -54,7 +57,7 @@ pub record Stands (files : List ℕ × List ℕ) (state : State) (steps : ℕ) :
 
 -- no reading of the bytes applies
 abbrev pub IsBroken : List ℕ → Kept → Type 0
-IsBroken bytes kept = (steps : List (List Change)) → IsRecord bytes steps → after_record steps kept ≡ None
+IsBroken bytes kept = (steps : List (List Change)) → IsRecord bytes steps → after_secret_record steps kept ≡ None
 
 -- The first record that doesn't apply has its commit mark at this place. If all apply, it is where the records stop
 -- although they aren't whole.

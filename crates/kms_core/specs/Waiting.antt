@@ -4,7 +4,7 @@ use Rattle.std.specs.List.{flat_map}
 use Rattle.kms_world.specs.State.{State}
 use Rattle.kms_record.specs.declared.change.Change.{Change}
 use Rattle.kms_record.specs.Grammar.{AreSteps, step_bytes}
-use Rattle.kms_record.specs.Kept.{after_record}
+use Rattle.kms_record.specs.SecretsOnly.{after_secret_record}
 use Rattle.kms_journal.specs.Position.{Position}
 use Rattle.kms_core.specs.Stands.{kept_as}
 
@@ -22,7 +22,7 @@ pub record Spells (s : Spelled) (steps : List (List Change)) : Type 0 where
 -- The steps that wait lead from the state that was settled to this one.
 abbrev pub IsAhead : Option Spelled → State → State → Type 0
 IsAhead None settled state = state ≡ settled
-IsAhead (Some s) settled state = (steps : List (List Change)) × Spells s steps × (after_record steps (kept_as settled) ≡ Some (kept_as state))
+IsAhead (Some s) settled state = (steps : List (List Change)) × Spells s steps × (after_secret_record steps (kept_as settled) ≡ Some (kept_as state))
 
 abbrev pub count_of : Option Spelled → ℕ
 count_of None = 0

@@ -5,7 +5,7 @@ ghost use Rattle.kms_host.specs.History.{History};
 ghost use Rattle.kms_world.specs.State.{State, empty_state};
 ghost use Rattle.kms_record.specs.declared.change.Change.{Change};
 ghost use Rattle.kms_record.specs.Grammar.{AreSteps, record_bytes};
-ghost use Rattle.kms_record.specs.Kept.{after_record};
+ghost use Rattle.kms_record.specs.SecretsOnly.{after_secret_record};
 ghost use Rattle.kms_journal.specs.Commit.{frame};
 ghost use Rattle.kms_journal.specs.Create.{fresh};
 ghost use Rattle.kms_journal.specs.Standing.{Standing, standing_of, with_framed};
@@ -48,7 +48,7 @@ pub fn a_fresh_store_is_empty()
 /// With one framed record more a store stands for the state after the record's steps.
 pub fn a_record_leads_on()
     ensures { (s : Standing) (before after : State) (steps : List (List Change)) → KeptOf s (kept_as before)
-        → AreSteps steps → length (record_bytes steps) < 2 ^ 32 → after_record steps (kept_as before) ≡ Some (kept_as after)
+        → AreSteps steps → length (record_bytes steps) < 2 ^ 32 → after_secret_record steps (kept_as before) ≡ Some (kept_as after)
         → KeptOf (with_framed s (frame (record_bytes steps))) (kept_as after) }
 {}
 

@@ -1,7 +1,7 @@
 // The rows to which the records of a store lead.
 ghost use Rattle.std.specs.Prelude.{◌≡◌, ◌<◌, ◌≤◌, ◌^◌, Some, None, IsErrOf, OnOk};
 ghost use Rattle.kms_record.specs.Grammar.{IsChange, IsStep, AreSteps};
-ghost use Rattle.kms_record.specs.Kept.{after_change, after_step, after_record};
+ghost use Rattle.kms_record.specs.SecretsOnly.{after_secret_change, after_secret_step, after_secret_record};
 ghost use Rattle.kms_core.specs.Stands.{Applies, IsBroken, kept_first};
 ghost use Rattle.kms_core.specs.declared.rows.RowsFault.TheVariants as faults;
 
@@ -30,7 +30,7 @@ impl Model for Rows {
     ghost invariant = { AreSound };
 }
 
-/// Why a record didn't lead on. What the rows are then isn't said.
+/// Why a record didn't lead on. A change other than one that puts a secret isn't taken yet. What the rows are then isn't said.
 #[derive(Clone, Copy, Debug, PartialEq, Eq)]
 pub(crate) enum RowsFault {
     /// The record, or a change in it, doesn't apply.
@@ -78,8 +78,8 @@ impl Rows {
 
     fn put_secret(&mut self, alloc: Global, put: SecretPut) -> Result<(), RowsFault>
         requires { IsChange (Change.SecretPut put) }
-        ensures ok { OnOk result (after_change (Change.SecretPut put) self.old ≡ Some self.new) }
-        ensures broken { IsErrOf result faults.Broken → after_change (Change.SecretPut put) self.old ≡ None }
+        ensures ok { OnOk result (after_secret_change (Change.SecretPut put) self.old ≡ Some self.new) }
+        ensures broken { IsErrOf result faults.Broken → after_secret_change (Change.SecretPut put) self.old ≡ None }
     {
         if put.id != self.ids || put.id >= 1 << 62 {
             return Err(RowsFault::Broken);
@@ -92,18 +92,19 @@ impl Rows {
 
     fn apply(&mut self, alloc: Global, change: Change) -> Result<(), RowsFault>
         requires { IsChange change }
-        ensures ok { OnOk result (after_change change self.old ≡ Some self.new) }
-        ensures broken { IsErrOf result faults.Broken → after_change change self.old ≡ None }
+        ensures ok { OnOk result (after_secret_change change self.old ≡ Some self.new) }
+        ensures broken { IsErrOf result faults.Broken → after_secret_change change self.old ≡ None }
     {
         match change {
             Change::SecretPut(put) => self.put_secret(alloc, put),
+            _ => Err(RowsFault::Broken),
         }
     }
 
     fn apply_step(&mut self, alloc: Global, step: Step) -> Result<(), RowsFault>
         requires { IsStep step }
-        ensures ok { OnOk result (after_step step self.old ≡ Some self.new) }
-        ensures broken { IsErrOf result faults.Broken → after_step step self.old ≡ None }
+        ensures ok { OnOk result (after_secret_step step self.old ≡ Some self.new) }
+        ensures broken { IsErrOf result faults.Broken → after_secret_step step self.old ≡ None }
     {
         for change in step.into_vec() {
             self.apply(alloc, change)?;
@@ -113,8 +114,8 @@ impl Rows {
 
     fn apply_steps(&mut self, alloc: Global, steps: Steps) -> Result<(), RowsFault>
         requires { AreSteps steps }
-        ensures ok { OnOk result (after_record steps self.old ≡ Some self.new) }
-        ensures broken { IsErrOf result faults.Broken → after_record steps self.old ≡ None }
+        ensures ok { OnOk result (after_secret_record steps self.old ≡ Some self.new) }
+        ensures broken { IsErrOf result faults.Broken → after_secret_record steps self.old ≡ None }
     {
         for step in steps.into_vec() {
             self.apply_step(alloc, step)?;

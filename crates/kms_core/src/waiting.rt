@@ -1,7 +1,8 @@
 // Accepted steps that aren't settled yet.
-ghost use Rattle.std.specs.Prelude.{◌≡◌, ◌<◌, ◌≤◌, ◌+◌, ◌*◌, ◌^◌, ◌++◌, length, IfOk, OnOk};
+ghost use Rattle.std.specs.Prelude.{◌≡◌, ◌<◌, ◌≤◌, ◌+◌, ◌*◌, ◌^◌, ◌++◌, length, sum_by, IfOk, OnOk};
 ghost use Rattle.kms_record.specs.Fields.{u32_bytes};
 ghost use Rattle.kms_record.specs.Grammar.{IsStep, IsStepInRange, step_bytes};
+ghost use Rattle.kms_record.specs.Size.{most_bytes};
 ghost use Rattle.kms_journal.specs.Commit.{frame};
 ghost use Rattle.kms_core.specs.Waiting.{count_of, steps_of};
 
@@ -74,7 +75,7 @@ impl Waiting {
     ) -> Result<Waiting, NoMemory>
         requires few { count_of before.now < 1152 }
         requires range { IsStepInRange step.now }
-        requires one { length step.now ≡ 1 }
+        requires short { sum_by most_bytes step.now ≤ 944 }
         ensures count { IfOk result (λ w. w.count ≡ count_of before.now + 1) }
         ensures steps { IfOk result (λ w. w.steps ≡ steps_of before.now ++ step_bytes step.now) }
         ensures most { IfOk result (λ w. w.count ≤ 1152) }

@@ -6,114 +6,66 @@ use Rattle.std.proofs.lemmas.Bool.{eqb-true}
 use Rattle.std.proofs.lemmas.List.{append-nil, nil_from_length}
 use Rattle.std.proofs.lemmas.List.Concat.{flat_map-cons}
 use Rattle.kms_record.specs.declared.change.Change.{Change}
-use Rattle.kms_record.specs.declared.change.Change.TheVariants.{SecretPut}
+use Rattle.kms_record.specs.declared.change.Change.TheVariants.{KeyAdded, KeyRewrapped, TokenReplaced, KeyDropped, SecretPut, PayloadPut, MetadataPut, ContainerPut, ConsumerAdded, ConsumerDropped, AclPut, AclDropped, OrderPut, QuotaPut, Deleted}
 use Rattle.kms_record.specs.Grammar.{change_bytes, IsChange, step_bytes, IsStep, record_bytes, AreSteps, snapshot_bytes, AreChanges, IsRecord, IsSnapshot}
-use Rattle.kms_record.specs.Reading.{◌>>=◌, Read, byte_at, number_at, many}
-use Rattle.kms_record.specs.SecretPutReading.{secret_put_at}
-use Rattle.kms_record.specs.GrammarReading.{change_at, step_at, alone, record_of, snapshot_of}
+use Rattle.kms_record.specs.Reading.{◌>>=◌, Read, byte_at, number_at, many, alternatives_at}
+use Rattle.kms_record.specs.GrammarReading.{changes_by_kind, change_at, step_at, alone, record_of, snapshot_of}
 use Rattle.kms_record.proofs.Codec.{IsBytes, IsBytes-rest, bind_some, passed, not_refused, some_is, Takes, Takes-then, IsCodec, refitted}
-use Rattle.kms_record.proofs.FieldLaws.{u16_codec, u32_codec, u64_codec}
-use Rattle.kms_record.proofs.SecretLaws.{secret_codec}
+use Rattle.kms_record.proofs.FieldLaws.{u16_codec, u32_codec, u64_codec, id_codec}
+use Rattle.kms_record.proofs.ListLaws.{counted, counted_codec, some_counted, some_counted_codec, IsAlternative, alternatives_codec, made_alternative}
+use Rattle.kms_record.proofs.KeyLaws.{wrapped_key_codec, key_dropped_codec}
+use Rattle.kms_record.proofs.PayloadLaws.{token_replaced_codec, payload_put_codec}
+use Rattle.kms_record.proofs.SecretLaws.{secret_put_codec}
+use Rattle.kms_record.proofs.MetadataLaws.{metadata_put_codec}
+use Rattle.kms_record.proofs.ContainerLaws.{container_put_codec}
+use Rattle.kms_record.proofs.ConsumerLaws.{consumer_added_codec, consumer_dropped_codec}
+use Rattle.kms_record.proofs.AclLaws.{acl_put_codec}
+use Rattle.kms_record.proofs.OrderLaws.{order_put_codec}
+use Rattle.kms_record.proofs.QuotaLaws.{quota_put_codec}
 
 passed_on : {A : Type 0} (b : Bool) (o : Option A) (y : A) → cond b o None ≡ Some y → (b ≡ true) × (o ≡ Some y)
 passed_on true o y e = (refl, e)
 passed_on false o y e = absurd cc
 
--- ---- so many values
-
-record TakesMany {A : Type 0} (spell : A → List ℕ) (F : A → Type 0) (n : ℕ) (bytes : List ℕ) (x : List A × List ℕ) : Type 0 where
-  takes : Takes bytes (flat_map spell x.0) x.1
-  count : length x.0 ≡ n
-  each : AllByRecursion F x.0
-
-many_take : {A : Type 0} (spell : A → List ℕ) (F : A → Type 0) (read : Read A) → IsCodec spell F read → (n : ℕ) (bytes : List ℕ) (x : List A × List ℕ) → IsBytes bytes → many read n bytes ≡ Some x → TakesMany spell F n bytes x
-unfolding many
-many_take {A} spell F read codec zero bytes x fits e =
-    let made : List A × List ℕ = ([], bytes) in
-    subst (λ (y : List A × List ℕ). TakesMany spell F 0 bytes y) (some_is made x e) (record { takes = record { parts = refl; rest_fits = fits }; count = refl; each = tt })
-many_take {A} spell F read codec (suc n) bytes x fits e =
-    let a = bind_some (read bytes) (λ first. many read n first.1 >>= λ others. Some (first.0 ∷ others.0, others.1)) x e in
-    let b = bind_some (many read n a.0.1) (λ others. Some (a.0.0 ∷ others.0, others.1)) x a.2 in
-    let first = codec.takes bytes a.0 fits a.1 in
-    let second = many_take spell F read codec n a.0.1 b.0 first.0.rest_fits b.1 in
-    let both = Takes-then bytes (spell a.0.0) a.0.1 (flat_map spell b.0.0) b.0.1 first.0 second.takes in
-    let made : List A × List ℕ = (a.0.0 ∷ b.0.0, b.0.1) in
-    subst (λ (y : List A × List ℕ). TakesMany spell F (suc n) bytes y) (some_is made x b.2)
-    (record { takes = rw flat_map-cons both; count = ap suc second.count; each = (first.1, second.each) })
-
-many_again : {A : Type 0} (spell : A → List ℕ) (F : A → Type 0) (read : Read A) → IsCodec spell F read → (xs : List A) (rest : List ℕ) → AllByRecursion F xs → many read (length xs) (flat_map spell xs ++ rest) ≡ Some (xs, rest)
-unfolding many
-many_again {A} spell F read codec [] rest each = refl
-many_again {A} spell F read codec (x ∷ xs) rest each =
-    let regrouped : flat_map spell (x ∷ xs) ++ rest ≡ spell x ++ (flat_map spell xs ++ rest) = ap (λ (t : List ℕ). t ++ rest) (flat_map-cons spell x xs) ∙ append_assoc (spell x) (flat_map spell xs) rest in
-    ap (many read (suc (length xs))) regrouped ∙ rw (codec.again x (flat_map spell xs ++ rest) each.0, many_again spell F read codec xs rest each.1) refl
-
--- ---- a count, and so many values
-
-abbrev pub counted : {A : Type 0} → Read ℕ → Read A → Read (List A)
-counted {A} number read bytes = number bytes >>= λ count. many read count.0 count.1
-
-abbrev pub counted_bytes : {A : Type 0} → (ℕ → List ℕ) → (A → List ℕ) → List A → List ℕ
-counted_bytes {A} count spell xs = count (length xs) ++ flat_map spell xs
-
-pub counted_codec : {A : Type 0} {count : ℕ → List ℕ} {limit : ℕ} {number : Read ℕ} {spell : A → List ℕ} {F : A → Type 0} {read : Read A} → IsCodec count (λ n. n < limit) number → IsCodec spell F read
-    → IsCodec (counted_bytes count spell) (λ xs. (length xs < limit) × AllByRecursion F xs) (counted number read)
-counted_codec {A} {count} {limit} {number} {spell} {F} {read} counts codec = record {
-  takes = λ bytes x fits e.
-      let a = bind_some (number bytes) (λ n. many read n.0 n.1) x e in
-      let n = counts.takes bytes a.0 fits a.1 in
-      let t = many_take spell F read codec a.0.0 a.0.1 x n.0.rest_fits a.2 in
-      let both = Takes-then bytes (count a.0.0) a.0.1 (flat_map spell x.0) x.1 n.0 t.takes in
-      (rw t.count both, (omega (arith, t.count, n.1), t.each));
-  again = λ xs rest f.
-      let regrouped : (count (length xs) ++ flat_map spell xs) ++ rest ≡ count (length xs) ++ (flat_map spell xs ++ rest) = append_assoc (count (length xs)) (flat_map spell xs) rest in
-      ap (counted number read) regrouped ∙ rw (counts.again (length xs) (flat_map spell xs ++ rest) f.0) (many_again spell F read codec xs rest f.1);
-}
-
-not_none : (n : ℕ) → 1 ≤ n → eqb n 0 ≡ false
-not_none n h = elim (eqb n 0) as (λ b. eqb n 0 ≡ b → b ≡ false) [ true ↦ λ e. absurd (omega (arith, eqb-true _ _ e)) | false ↦ λ e. refl ] refl
-
-at_least_one : (n m : ℕ) → eqb n 0 ≡ false → m ≡ n → 1 ≤ m
-at_least_one n m h e = grind (arith, e)
-
--- the count isn't 0
-abbrev pub some_counted : {A : Type 0} → Read ℕ → Read A → Read (List A)
-some_counted {A} number read bytes = number bytes >>= λ count. cond (eqb count.0 0) None (many read count.0 count.1)
-
-pub some_counted_codec : {A : Type 0} {count : ℕ → List ℕ} {limit : ℕ} {number : Read ℕ} {spell : A → List ℕ} {F : A → Type 0} {read : Read A} → IsCodec count (λ n. n < limit) number → IsCodec spell F read
-    → IsCodec (counted_bytes count spell) (λ xs. (1 ≤ length xs) × ((length xs < limit) × AllByRecursion F xs)) (some_counted number read)
-some_counted_codec {A} {count} {limit} {number} {spell} {F} {read} counts codec = record {
-  takes = λ bytes x fits e.
-      let a = bind_some (number bytes) (λ n. cond (eqb n.0 0) None (many read n.0 n.1)) x e in
-      let g = not_refused (eqb a.0.0 0) (many read a.0.0 a.0.1) x a.2 in
-      let n = counts.takes bytes a.0 fits a.1 in
-      let t = many_take spell F read codec a.0.0 a.0.1 x n.0.rest_fits g.1 in
-      let both = Takes-then bytes (count a.0.0) a.0.1 (flat_map spell x.0) x.1 n.0 t.takes in
-      (rw t.count both, (at_least_one a.0.0 (length x.0) g.0 t.count, (omega (arith, t.count, n.1), t.each)));
-  again = λ xs rest f.
-      let regrouped : (count (length xs) ++ flat_map spell xs) ++ rest ≡ count (length xs) ++ (flat_map spell xs ++ rest) = append_assoc (count (length xs)) (flat_map spell xs) rest in
-      ap (some_counted number read) regrouped ∙ rw (counts.again (length xs) (flat_map spell xs ++ rest) f.1.0, not_none (length xs) f.0) (many_again spell F read codec xs rest f.1.1);
-}
-
 -- ---- changes, steps, records, snapshots
 
-change_takes : (bytes : List ℕ) (x : Change × List ℕ) → IsBytes bytes → change_at bytes ≡ Some x → Takes bytes (change_bytes x.0) x.1 × IsChange x.0
-unfolding change_at byte_at
-change_takes [] x fits e = absurd cc
-change_takes (b ∷ bytes) x fits e =
-    let g = passed_on (eqb b 5) (secret_put_at bytes >>= λ put. Some (SecretPut put.0, put.1)) x e in
-    let a = bind_some (secret_put_at bytes) (λ put. Some (SecretPut put.0, put.1)) x g.1 in
-    let t = secret_codec.takes bytes a.0 (IsBytes-rest b bytes fits) a.1 in
-    let made : Change × List ℕ = (SecretPut a.0.0, a.0.1) in
-    subst (λ (y : Change × List ℕ). Takes (b ∷ bytes) (change_bytes y.0) y.1 × IsChange y.0) (some_is made x a.2)
-    (record { parts = ap (λ (n : ℕ). n ∷ bytes) (eqb-true _ _ g.0) ∙ ap (λ (w : List ℕ). 5 ∷ w) t.0.parts; rest_fits = t.0.rest_fits }, t.1)
-
 change_again : (change : Change) (rest : List ℕ) → IsChange change → change_at (change_bytes change ++ rest) ≡ Some (change, rest)
-unfolding change_at byte_at
-change_again (SecretPut put) rest fits = rw (secret_codec.again put rest fits) refl
+unfolding alternatives_at byte_at
+change_again (KeyAdded put) rest fits = rw (wrapped_key_codec.again put rest fits) refl
+change_again (KeyRewrapped put) rest fits = rw (wrapped_key_codec.again put rest fits) refl
+change_again (TokenReplaced put) rest fits = rw (token_replaced_codec.again put rest fits) refl
+change_again (KeyDropped put) rest fits = rw (key_dropped_codec.again put rest fits) refl
+change_again (SecretPut put) rest fits = rw (secret_put_codec.again put rest fits) refl
+change_again (PayloadPut put) rest fits = rw (payload_put_codec.again put rest fits) refl
+change_again (MetadataPut put) rest fits = rw (metadata_put_codec.again put rest fits) refl
+change_again (ContainerPut put) rest fits = rw (container_put_codec.again put rest fits) refl
+change_again (ConsumerAdded put) rest fits = rw (consumer_added_codec.again put rest fits) refl
+change_again (ConsumerDropped put) rest fits = rw (consumer_dropped_codec.again put rest fits) refl
+change_again (AclPut put) rest fits = rw (acl_put_codec.again put rest fits) refl
+change_again (AclDropped id) rest fits = rw (id_codec.again id rest fits) refl
+change_again (OrderPut put) rest fits = rw (order_put_codec.again put rest fits) refl
+change_again (QuotaPut put) rest fits = rw (quota_put_codec.again put rest fits) refl
+change_again (Deleted id) rest fits = rw (id_codec.again id rest fits) refl
 
 pub change_codec : IsCodec change_bytes IsChange change_at
-change_codec = record { takes = change_takes; again = change_again }
+change_codec = alternatives_codec changes_by_kind
+    (made_alternative 1 (λ put. KeyAdded put) wrapped_key_codec (λ put. refl) (λ put f. f),
+    (made_alternative 2 (λ put. KeyRewrapped put) wrapped_key_codec (λ put. refl) (λ put f. f),
+    (made_alternative 3 (λ put. TokenReplaced put) token_replaced_codec (λ put. refl) (λ put f. f),
+    (made_alternative 4 (λ put. KeyDropped put) key_dropped_codec (λ put. refl) (λ put f. f),
+    (made_alternative 5 (λ put. SecretPut put) secret_put_codec (λ put. refl) (λ put f. f),
+    (made_alternative 6 (λ put. PayloadPut put) payload_put_codec (λ put. refl) (λ put f. f),
+    (made_alternative 7 (λ put. MetadataPut put) metadata_put_codec (λ put. refl) (λ put f. f),
+    (made_alternative 8 (λ put. ContainerPut put) container_put_codec (λ put. refl) (λ put f. f),
+    (made_alternative 9 (λ put. ConsumerAdded put) consumer_added_codec (λ put. refl) (λ put f. f),
+    (made_alternative 10 (λ put. ConsumerDropped put) consumer_dropped_codec (λ put. refl) (λ put f. f),
+    (made_alternative 11 (λ put. AclPut put) acl_put_codec (λ put. refl) (λ put f. f),
+    (made_alternative 12 (λ id. AclDropped id) id_codec (λ id. refl) (λ id f. f),
+    (made_alternative 13 (λ put. OrderPut put) order_put_codec (λ put. refl) (λ put f. f),
+    (made_alternative 14 (λ put. QuotaPut put) quota_put_codec (λ put. refl) (λ put f. f),
+    (made_alternative 15 (λ id. Deleted id) id_codec (λ id. refl) (λ id f. f),
+    tt)))))))))))))))
+    change_again
 
 pub step_codec : IsCodec step_bytes IsStep step_at
 unfolding step_at
