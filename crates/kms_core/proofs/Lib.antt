@@ -1,6 +1,7 @@
 pub mod DamageLaws
 pub mod FoundLaws
 pub mod LoadLaws
+pub mod PostLaws
 pub mod SettleLaws
 pub mod StandsLaws
 pub mod StartLaws

@@ -1,0 +1,19 @@
+use Rattle.std.proofs.Common.{rules, ◌≡◌, true, [], Bool, sym, ap, ◌∙◌}
+use Rattle.kms_model.specs.Secrets.{has_id, is_short_name, next_id}
+use Rattle.kms_core.proofs.PostLaws.{post_leads}
+use Rattle.kms_core.proofs.engine.Engine.post_secret.Goals as goal
+
+pub returns-clause-step : goal.returns-clause-step
+returns-clause-step c =
+    let s = c.args.self.now.state in
+    let short : is_short_name c.args.body.name ≡ true = search rules in
+    let left : has_id s ≡ true = search rules in
+    let next : c.id_of-id.result ≡ next_id s = search rules in
+    let none : c.new.result ≡ [] = c.new.ensures in
+    record {
+      leads = post_leads s c.args.caller.now c.args.body c.args.moment c.id_of-id.result c.new.result short left next none;
+      room = search rules;
+      ids = search rules;
+      id = next;
+      times = search rules;
+    }
