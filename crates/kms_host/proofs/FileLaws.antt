@@ -3,7 +3,7 @@ use Rattle.std.proofs.Common.{◌≡◌, ◌⊎◌, inl, inr, ℕ, ◌+◌, ◌�
 use Rattle.std.specs.Prelude.{◌&&◌, ◌||◌, nat_le, Result, Ok, Err, IfOk}
 use Rattle.std.proofs.lemmas.List.{length-take}
 use Rattle.kms_host.specs.Disk.{Disk, put, after_write, after_cut, IsOutside, MayLeave}
-use Rattle.kms_host.specs.File.{IsSound, IsPicked, is_outside, torn_byte}
+use Rattle.kms_host.specs.File.{IsSound, IsPicked, is_outside}
 use Rattle.kms_host.specs.declared.call.Pick.TheVariants.{Torn}
 use Rattle.kms_host.proofs.DiskLaws.{write_reads, write_keeps, cut_reads, cut_keeps, length-put}
 

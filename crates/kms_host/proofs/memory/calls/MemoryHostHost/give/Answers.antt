@@ -1,4 +1,4 @@
-use Rattle.std.proofs.Common.{◌≡◌, ◌∙◌, sym, subst, length, false, true, arith, List, ℕ}
+use Rattle.std.proofs.Common.{◌≡◌, ◌∙◌, sym, subst, length, false, arith, List, ℕ}
 use Rattle.std.proofs.lemmas.List.{take_all}
 use Rattle.kms_host.specs.Memory.{both, AddsTo}
 use Rattle.kms_host.specs.History.{WhereTold}
@@ -15,7 +15,7 @@ pub invariant_of-self-then-is_err : goal.invariant_of-self-then-is_err
 invariant_of-self-then-is_err c =
     let same : c.send.new.outputs.items ≡ c.self.inside.outputs.items = where_err c.send.result _ (sym c.is_err.ensures.value ∙ c.if-is_err.true) c.send.ensures.err in
     subst (λ (l : List (ℕ × List ℕ)). WhereTold (history_of (both c.self.inside.opening) c.self.inside.key_files.items c.note-then-is_err.new.self.calls) (Agrees l c.self.inside.opened c.self.inside.file_0 c.self.inside.file_1)) (sym same)
-    (agrees_apart (both c.self.inside.opening) c.self.inside.key_files.items c.gave-then-is_err.result true c.self.inside.log c.note-then-is_err.new.self _ c.self.inside.outputs.items c.self.inside.opened c.self.inside.file_0 c.self.inside.file_1
+    (agrees_apart (both c.self.inside.opening) c.self.inside.key_files.items c.gave-then-is_err.result _ c.self.inside.log c.note-then-is_err.new.self _ c.self.inside.outputs.items c.self.inside.opened c.self.inside.file_0 c.self.inside.file_1
     c.gave-then-is_err.ensures c.note-then-is_err.ensures (apart_gave_not _ _) c.self.invariant)
 
 pub invariant_of-self-2 : goal.invariant_of-self-2

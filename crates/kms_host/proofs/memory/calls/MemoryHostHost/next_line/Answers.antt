@@ -1,7 +1,5 @@
-use Rattle.std.proofs.Common.{refl, false, sym, subst}
+use Rattle.std.proofs.Common.{refl, false}
 use Rattle.kms_host.specs.Memory.{both}
-use Rattle.kms_host.specs.History.{WhereTold}
-use Rattle.kms_host.specs.Recording.{Agrees, history_of}
 use Rattle.kms_host.specs.declared.bytes.NoMemory.{NoMemory}
 use Rattle.kms_host.proofs.AgreeLaws.{agrees_apart, apart_came_not, agrees_came, tells_came}
 use Rattle.kms_host.proofs.Moments.{tells_weaker}
