@@ -2,6 +2,7 @@ pub mod DamageLaws
 pub mod FoundLaws
 pub mod LoadLaws
 pub mod PostLaws
+pub mod RouteLaws
 pub mod SettleLaws
 pub mod StandsLaws
 pub mod StartLaws

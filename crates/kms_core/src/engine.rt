@@ -70,8 +70,10 @@ impl Engine {
         ensures host { host.new ≡ host.old }
     {
         match op {
-            Op::PostSecret { body: Ok(body) } => self.post_secret(caller, body, moment),
-            Op::PostSecret { body: Err(refusal) } => Ok(refused(refusal)),
+            Op::PostSecret { body } => match body {
+                Ok(body) => self.post_secret(caller, body, moment),
+                Err(refusal) => Ok(refused(refusal)),
+            },
             Op::GetSecret { id, .. } => self.get_secret(caller, id, moment),
             _ => Ok(refused(Refusal::NoRoute)),
         }
