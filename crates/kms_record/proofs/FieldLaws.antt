@@ -9,10 +9,8 @@ use Rattle.std.proofs.lemmas.Nat.{be_bytes_2, be_bytes_4, be_bytes_8, from_be_by
 use Rattle.std.proofs.lemmas.Str.{IsUtf8-from_is_utf8, is_utf8-from_IsUtf8}
 use Rattle.kms_world.specs.Name.{is_name}
 use Rattle.kms_world.specs.Times.{end_of_times}
-use Rattle.kms_world.specs.declared.secret.SecretKind.{SecretKind}
-use Rattle.kms_world.specs.declared.secret.SecretKind.TheVariants.{Symmetric, Public, Private, Passphrase, Certificate, Opaque}
-use Rattle.kms_record.specs.Fields.{u8_bytes, u16_bytes, u32_bytes, u64_bytes, text_bytes, option_bytes, kind_number, IsShort, IsBitLength}
-use Rattle.kms_record.specs.Reading.{◌>>=◌, Read, taken, byte_at, number_at, id_at, time_at, bit_length_at, text_at, short_text_at, name_at, kind_of_number, kind_at, mark_at, option_at}
+use Rattle.kms_record.specs.Fields.{u8_bytes, u16_bytes, u32_bytes, u64_bytes, text_bytes, option_bytes, token_bytes, mark_bytes, IsShort, IsFilled, IsBitLength, IsToken}
+use Rattle.kms_record.specs.Reading.{◌>>=◌, Read, taken, byte_at, number_at, id_at, time_at, bit_length_at, text_at, short_text_at, filled_text_at, long_text_at, token_at, name_at, mark_at, option_at}
 use Rattle.kms_record.proofs.Codec.{IsBytes, IsBytes-drop, IsBytes-take, IsBytes-rest, bind_some, passed, not_refused, found, some_is, Takes, Takes-then, IsCodec, refitted, passing_codec}
 
 both_true : (a b : Bool) → (a && b) ≡ true → (a ≡ true) × (b ≡ true)
@@ -135,76 +133,53 @@ short_text_codec = refitted (passing_codec (λ t. leb (length t) 255 && is_utf8 
 pub name_is_short : (t : List ℕ) → is_name t ≡ true → length t ≤ 64
 name_is_short t h = leb-true _ _ (both_true _ _ (both_true _ _ h).0).1
 
-pub name_codec : IsCodec text_bytes (λ t. is_name t ≡ true) name_at
+name_codec : IsCodec text_bytes (λ t. is_name t ≡ true) name_at
 name_codec = refitted (passing_codec is_name text_codec) (λ t f. f.1) (λ t h. (omega (arith, name_is_short t h), h))
 
--- ---- kinds and options
+pub short_name_codec : IsCodec text_bytes (λ t. (length t ≤ 64) × (is_name t ≡ true)) name_at
+short_name_codec = refitted name_codec (λ t h. (name_is_short t h, h)) (λ t h. h.1)
+
+pub filled_text_codec : IsCodec text_bytes (λ t. IsFilled t × IsUtf8 t) filled_text_at
+filled_text_codec = refitted (passing_codec (λ t. leb 1 (length t) && leb (length t) 255 && is_utf8 t) text_codec)
+    (λ t f.
+        let b = both_true (leb 1 (length t) && leb (length t) 255) (is_utf8 t) f.1 in
+        let c = both_true (leb 1 (length t)) (leb (length t) 255) b.0 in
+        ((leb-true _ _ c.0, leb-true _ _ c.1), IsUtf8-from_is_utf8 t b.1))
+    (λ t b. (omega (arith, b.0.1), rw (le-leb _ _ b.0.0, le-leb _ _ b.0.1, is_utf8-from_IsUtf8 t b.1) refl))
+
+-- ---- tokens and wrapped keys
+
+pub taken_codec : (n : ℕ) → IsCodec (λ t. t) (λ t. length t ≡ n) (taken n)
+taken_codec n = record {
+  takes = λ bytes x fits e. let t = some_taken n bytes x fits e in (t.takes, t.many);
+  again = λ t rest len. taken_again n t rest len;
+}
+
+long_text_codec : IsCodec token_bytes (λ t. length t < 2 ^ 32) long_text_at
+unfolding token_bytes long_text_at
+long_text_codec = record {
+  takes = λ bytes x fits e.
+      let a = bind_some (number_at w32 bytes) (λ n. taken n.0 n.1) x e in
+      let n = u32_codec.takes bytes a.0 fits a.1 in
+      let t = some_taken a.0.0 a.0.1 x n.0.rest_fits a.2 in
+      let both = Takes-then bytes (u32_bytes a.0.0) a.0.1 x.0 x.1 n.0 t.takes in
+      (rw t.many both, omega (arith, t.many, n.1));
+  again = λ t rest lt.
+      let regrouped : (u32_bytes (length t) ++ t) ++ rest ≡ u32_bytes (length t) ++ (t ++ rest) = append_assoc (u32_bytes (length t)) t rest in
+      ap long_text_at regrouped ∙ rw (u32_codec.again (length t) (t ++ rest) lt) (taken_again (length t) t rest refl);
+}
+
+pub token_codec : IsCodec token_bytes IsToken token_at
+token_codec = refitted (passing_codec (λ t. leb 100 (length t) && leb (length t) 26764) long_text_codec)
+    (λ t f. let b = both_true (leb 100 (length t)) (leb (length t) 26764) f.1 in (leb-true _ _ b.0, leb-true _ _ b.1))
+    (λ t b. (omega (arith, b.1), rw (le-leb _ _ b.0, le-leb _ _ b.1) refl))
+
+-- ---- marks and optional values
 
 -- either the first, or the others
-chosen : {A : Type 0} (b : Bool) (o p : Option A) (x : A) → cond b o p ≡ Some x → ((b ≡ true) × (o ≡ Some x)) ⊎ (p ≡ Some x)
+pub chosen : {A : Type 0} (b : Bool) (o p : Option A) (x : A) → cond b o p ≡ Some x → ((b ≡ true) × (o ≡ Some x)) ⊎ ((b ≡ false) × (p ≡ Some x))
 chosen true o p x e = inl (refl, e)
-chosen false o p x e = inr e
-
-number_is : (n m : ℕ) (a k : SecretKind) (o : Option SecretKind) → m ≡ kind_number a → cond (eqb n m) (Some a) o ≡ Some k → (n ≡ kind_number k) ⊎ (o ≡ Some k)
-number_is n m a k o is e =
-    elim (chosen (eqb n m) (Some a) o k e) [
-      | inl h ↦ inl (eqb-true _ _ h.0 ∙ is ∙ ap kind_number (some_is a k h.1))
-      | inr h ↦ inr h
-    ]
-
-abbrev none_of : Option SecretKind
-none_of = None
-
-none_found : (k : SecretKind) → none_of ≡ Some k → ⊥
-none_found k e = cc
-
-kind_found : (n : ℕ) (k : SecretKind) → kind_of_number n ≡ Some k → n ≡ kind_number k
-kind_found n k e =
-    elim (number_is n 0 Symmetric k _ refl e) [
-      | inl h ↦ h
-      | inr e1 ↦
-          elim (number_is n 1 Public k _ refl e1) [
-            | inl h ↦ h
-            | inr e2 ↦
-                elim (number_is n 2 Private k _ refl e2) [
-                  | inl h ↦ h
-                  | inr e3 ↦
-                      elim (number_is n 3 Passphrase k _ refl e3) [
-                        | inl h ↦ h
-                        | inr e4 ↦
-                            elim (number_is n 4 Certificate k _ refl e4) [
-                              | inl h ↦ h
-                              | inr e5 ↦
-                                  elim (number_is n 5 Opaque k _ refl e5) [ inl h ↦ h | inr e6 ↦ absurd (none_found k e6) ]
-                            ]
-                      ]
-                ]
-          ]
-    ]
-
-kind_back : (k : SecretKind) → kind_of_number (kind_number k) ≡ Some k
-kind_back Symmetric = refl
-kind_back Public = refl
-kind_back Private = refl
-kind_back Passphrase = refl
-kind_back Certificate = refl
-kind_back Opaque = refl
-
-kind_takes : (bytes : List ℕ) (x : SecretKind × List ℕ) → IsBytes bytes → kind_at bytes ≡ Some x → Takes bytes (u8_bytes (kind_number x.0)) x.1 × Unit {0}
-unfolding u8_bytes kind_at byte_at
-kind_takes [] x fits e = absurd cc
-kind_takes (b ∷ bytes) x fits e =
-    let a = bind_some (kind_of_number b) (λ kind. Some (kind, bytes)) x e in
-    let made : SecretKind × List ℕ = (a.0, bytes) in
-    subst (λ (y : SecretKind × List ℕ). Takes (b ∷ bytes) (kind_number y.0 ∷ []) y.1 × Unit {0}) (some_is made x a.2)
-    (record { parts = ap (λ (n : ℕ). n ∷ bytes) (kind_found b a.0 a.1); rest_fits = IsBytes-rest b bytes fits }, tt)
-
-pub kind_codec : IsCodec (λ k. u8_bytes (kind_number k)) (λ k. Unit {0}) kind_at
-unfolding u8_bytes kind_at byte_at
-kind_codec = record {
-  takes = kind_takes;
-  again = λ k rest f. rw (kind_back k) refl;
-}
+chosen false o p x e = inr (refl, e)
 
 -- a mark is 0 or 1
 mark_found : (b : ℕ) (bytes : List ℕ) (x : Bool × List ℕ) → mark_at (b ∷ bytes) ≡ Some x → ((b ≡ 0) × ((false, bytes) ≡ x)) ⊎ ((b ≡ 1) × ((true, bytes) ≡ x))
@@ -214,7 +189,7 @@ mark_found b bytes x e =
     let with : Bool × List ℕ = (true, bytes) in
     elim (chosen (eqb b 0) (Some without) (cond (eqb b 1) (Some with) None) x e) [
       | inl h ↦ inl (eqb-true _ _ h.0, some_is without x h.1)
-      | inr h ↦ let g = passed (eqb b 1) with x h in inr (eqb-true _ _ g.0, g.1)
+      | inr h ↦ let g = passed (eqb b 1) with x h.1 in inr (eqb-true _ _ g.0, g.1)
     ]
 
 no_mark : (x : Bool × List ℕ) → mark_at [] ≡ Some x → ⊥
@@ -257,3 +232,31 @@ option_codec {A} {spell} {F} {read} codec = record {
   takes = λ bytes x fits e. let t = option_takes spell F read codec bytes x fits e in (t.takes, t.fits);
   again = option_again spell F read codec;
 }
+
+pub optional_text_codec : IsCodec (option_bytes text_bytes) (λ o. IfSome o IsShort × IfSome o IsUtf8) (option_at short_text_at)
+optional_text_codec = refitted (option_codec short_text_codec) parted joined
+  where
+  parted : (o : Option (List ℕ)) → IfSome o (λ t. IsShort t × IsUtf8 t) → IfSome o IsShort × IfSome o IsUtf8
+  parted None h = (tt, tt)
+  parted (Some t) h = h
+  joined : (o : Option (List ℕ)) → IfSome o IsShort × IfSome o IsUtf8 → IfSome o (λ t. IsShort t × IsUtf8 t)
+  joined None h = tt
+  joined (Some t) h = h
+
+mark_takes : (bytes : List ℕ) (x : Bool × List ℕ) → IsBytes bytes → mark_at bytes ≡ Some x → Takes bytes (mark_bytes x.0) x.1 × Unit {0}
+unfolding mark_bytes
+mark_takes [] x fits e = absurd (no_mark x e)
+mark_takes (b ∷ bytes) x fits e =
+    let rest_fits = IsBytes-rest b bytes fits in
+    elim (mark_found b bytes x e) [
+      | inl h ↦ subst (λ (y : Bool × List ℕ). Takes (b ∷ bytes) (mark_bytes y.0) y.1 × Unit {0}) h.1 (record { parts = ap (λ (n : ℕ). n ∷ bytes) h.0; rest_fits = rest_fits }, tt)
+      | inr h ↦ subst (λ (y : Bool × List ℕ). Takes (b ∷ bytes) (mark_bytes y.0) y.1 × Unit {0}) h.1 (record { parts = ap (λ (n : ℕ). n ∷ bytes) h.0; rest_fits = rest_fits }, tt)
+    ]
+
+mark_again : (b : Bool) (rest : List ℕ) → Unit {0} → mark_at (mark_bytes b ++ rest) ≡ Some (b, rest)
+unfolding mark_bytes mark_at byte_at
+mark_again true rest f = refl
+mark_again false rest f = refl
+
+pub mark_codec : IsCodec mark_bytes (λ b. Unit {0}) mark_at
+mark_codec = record { takes = mark_takes; again = mark_again }

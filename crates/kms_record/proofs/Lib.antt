@@ -1,8 +1,11 @@
+pub mod CodeLaws
 pub mod Codec
 pub mod FieldLaws
 pub mod GrammarLaws
 pub mod KeptLaws
+pub mod ListLaws
 pub mod ManyLaws
 pub mod SecretLaws
 pub mod SizeLaws
 pub mod TextLaws
+pub mod WindowLaws

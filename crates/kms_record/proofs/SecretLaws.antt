@@ -5,7 +5,7 @@ use Rattle.std.specs.Str.{IsUtf8}
 use Rattle.kms_world.specs.Name.{is_name}
 use Rattle.kms_world.specs.Times.{end_of_times}
 use Rattle.kms_record.specs.declared.secret_put.SecretPut.{SecretPut}
-use Rattle.kms_record.specs.Fields.{u8_bytes, u16_bytes, u64_bytes, text_bytes, option_bytes, kind_number, IsShort, IsBitLength}
+use Rattle.kms_record.specs.Fields.{u8_bytes, u16_bytes, u64_bytes, text_bytes, option_bytes, secret_kind_number, IsShort, IsBitLength}
 use Rattle.kms_record.specs.SecretPut.{secret_put_bytes, IsInRange, IsTextual}
 use Rattle.kms_record.specs.SecretPutReading.{SecretFields, put_with, secret_fields_at, secret_put_at}
 use Rattle.kms_record.proofs.Codec.{IsCodec, refitted, respelled, both_codec, made_codec}
@@ -18,7 +18,7 @@ abbrev fields_bytes : SecretFields → List ℕ
 fields_bytes (id, (project, (creator, (created, (updated, (name, (algorithm, (bit_length, (mode, (kind, expiration)))))))))) =
     u64_bytes id ++ (text_bytes project ++ (text_bytes creator ++ (u64_bytes created ++ (u64_bytes updated
     ++ (option_bytes text_bytes name ++ (option_bytes text_bytes algorithm ++ (option_bytes u16_bytes bit_length
-    ++ (option_bytes text_bytes mode ++ (u8_bytes (kind_number kind) ++ option_bytes u64_bytes expiration)))))))))
+    ++ (option_bytes text_bytes mode ++ (u8_bytes (secret_kind_number kind) ++ option_bytes u64_bytes expiration)))))))))
 
 abbrev IsShortText : List ℕ → Type 0
 IsShortText t = IsShort t × IsUtf8 t

@@ -6,7 +6,7 @@ use Rattle.std.proofs.lemmas.List.Concat.{flat_map-cons, length-flat_map}
 use Rattle.kms_record.specs.declared.change.Change.{Change}
 use Rattle.kms_record.specs.declared.change.Change.TheVariants.{SecretPut}
 use Rattle.kms_record.specs.declared.secret_put.SecretPut as put_type
-use Rattle.kms_record.specs.Fields.{u8_bytes, u16_bytes, u32_bytes, u64_bytes, text_bytes, option_bytes, kind_number, IsShort}
+use Rattle.kms_record.specs.Fields.{u8_bytes, u16_bytes, u32_bytes, u64_bytes, text_bytes, option_bytes, secret_kind_number, IsShort}
 use Rattle.kms_record.specs.SecretPut.{secret_put_bytes, IsInRange}
 use Rattle.kms_record.specs.Grammar.{change_bytes, IsChangeInRange, step_bytes, IsStepInRange, record_bytes}
 
@@ -56,7 +56,7 @@ secret_is_short put r =
       optional_text_is_short put.algorithm r.algorithm,
       optional_u16_is_short put.bit_length,
       optional_text_is_short put.mode r.mode,
-      length-u8 (kind_number put.kind),
+      length-u8 (secret_kind_number put.kind),
       optional_u64_is_short put.expiration,
       r.project,
       r.creator,

@@ -6,14 +6,14 @@ use Rattle.kms_world.specs.Name.{is_name}
 use Rattle.kms_world.specs.Times.{end_of_times}
 use Rattle.kms_world.specs.declared.secret.SecretRow.{SecretRow}
 use Rattle.kms_record.specs.declared.secret_put.SecretPut.{SecretPut}
-use Rattle.kms_record.specs.Fields.{u8_bytes, u16_bytes, u64_bytes, text_bytes, option_bytes, kind_number, IsShort, IsBitLength}
+use Rattle.kms_record.specs.Fields.{u8_bytes, u16_bytes, u64_bytes, text_bytes, option_bytes, secret_kind_number, IsShort, IsBitLength}
 
 -- its fields in their order
 unfoldable pub secret_put_bytes : SecretPut → List ℕ
 secret_put_bytes put =
     u64_bytes put.id ++ text_bytes put.project ++ text_bytes put.creator ++ u64_bytes put.created ++ u64_bytes put.updated
     ++ option_bytes text_bytes put.name ++ option_bytes text_bytes put.algorithm ++ option_bytes u16_bytes put.bit_length
-    ++ option_bytes text_bytes put.mode ++ u8_bytes (kind_number put.kind) ++ option_bytes u64_bytes put.expiration
+    ++ option_bytes text_bytes put.mode ++ u8_bytes (secret_kind_number put.kind) ++ option_bytes u64_bytes put.expiration
 
 -- its numbers and lengths are in their ranges
 pub record IsInRange (put : SecretPut) : Type 0 where

@@ -2,7 +2,7 @@
 use Rattle.std.specs.Prelude.{ℕ, List, Option}
 use Rattle.kms_world.specs.declared.secret.SecretKind.{SecretKind}
 use Rattle.kms_record.specs.declared.secret_put.SecretPut.{SecretPut}
-use Rattle.kms_record.specs.Reading.{Read, id_at, name_at, time_at, short_text_at, bit_length_at, kind_at, option_at, both, made_of}
+use Rattle.kms_record.specs.Reading.{Read, id_at, name_at, time_at, short_text_at, bit_length_at, secret_kind_at, option_at, both, made_of}
 
 -- the fields in their order
 abbrev pub SecretFields : Type 0
@@ -27,7 +27,7 @@ abbrev pub secret_fields_at : Read SecretFields
 secret_fields_at =
     both id_at (both name_at (both name_at (both time_at (both time_at (both (option_at short_text_at)
     (both (option_at short_text_at) (both (option_at bit_length_at) (both (option_at short_text_at)
-    (both kind_at (option_at time_at))))))))))
+    (both secret_kind_at (option_at time_at))))))))))
 
 unfoldable pub secret_put_at : Read SecretPut
 secret_put_at = made_of put_with secret_fields_at

@@ -2,6 +2,8 @@
 ghost use Rattle.std.specs.Prelude.{◌≡◌, ◌++◌, [], ◌∷◌, OnOk, OnErr};
 
 use crate::SecretPut;
+use crate::spell;
+use crate::window::Window;
 use kms_world::NoMemory;
 use std::alloc::Global;
 use std::marker::Model;
@@ -11,6 +13,27 @@ use std::marker::Model;
 pub enum Change {
     /// A secret comes, without payload and metadata.
     SecretPut(SecretPut),
+}
+
+impl Change {
+    ghost use Rattle.std.specs.Prelude.{◌≡◌};
+    ghost use Rattle.kms_record.specs.Grammar.{change_bytes, IsChange, IsChangeInRange};
+    ghost use Rattle.kms_record.specs.Window.{shown};
+
+    /// Writes the byte of its kind, and its fields.
+    #[tactic(auto, using(crate::proofs::WindowLaws::shown_twice), unfolding(crate::specs::Fields::u8_bytes))]
+    pub(crate) fn write(&self, out: &mut Window)
+        requires { IsChangeInRange self.now }
+        ensures spelled { out.new ≡ shown out.old (change_bytes self.now) }
+        ensures admitted { IsChange self.now }
+    {
+        match self {
+            Change::SecretPut(put) => {
+                spell::byte(out, 5);
+                put.write(out);
+            }
+        }
+    }
 }
 
 /// The changes of a snapshot, in the order in which they apply. Contracts see the list.

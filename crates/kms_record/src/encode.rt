@@ -1,22 +1,39 @@
 // Steps to bytes.
-ghost use Rattle.std.specs.Prelude.{◌≡◌, ◌++◌, OnOk, OnErr};
+ghost use Rattle.std.specs.Prelude.{◌≡◌, ◌≤◌, ◌^◌, ◌<◌, ◌++◌, length, OnOk, OnErr};
 ghost use Rattle.std.specs.List.{flat_map, AllByRecursion};
 ghost use Rattle.kms_record.specs.Grammar.{change_bytes, step_bytes, IsChange, IsChangeInRange, IsStep, IsStepInRange};
+ghost use Rattle.kms_record.specs.Window.{shown};
 
+use crate::window::Window;
 use crate::{Change, Step};
 use kms_world::{Bytes, NoMemory};
 
+// How many bytes the change is spelled with.
+fn change_len(change: &Change) -> usize
+    requires { IsChangeInRange change.now }
+    ensures { result ≡ length (change_bytes change.now) }
+{
+    let mut window = Window::after(usize::MAX);
+    change.write(&mut window);
+    usize::MAX - window.unseen()
+}
+
+// The spelling goes out a window at a time.
 fn put_change(out: &mut Bytes, change: &Change) -> Result<(), NoMemory>
     requires { IsChangeInRange change.now }
     ensures spelled { OnOk result (out.new ≡ out.old ++ change_bytes change.now) }
     ensures admitted { OnOk result (IsChange change.now) }
 {
-    match change {
-        Change::SecretPut(put) => {
-            out.push_all(&[5])?;
-            put.write(out)
-        }
+    let len = change_len(change);
+    let mut from = 0;
+    while from < len {
+        let mut window = Window::after(from);
+        change.write(&mut window);
+        let piece = window.as_slice();
+        out.push_all(piece)?;
+        from += piece.len();
     }
+    Ok(())
 }
 
 fn put_changes(out: &mut Bytes, changes: &[Change]) -> Result<(), NoMemory>

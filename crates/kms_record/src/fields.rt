@@ -1,61 +1,19 @@
-// The fields of changes, read and written.
-ghost use Rattle.std.specs.Prelude.{◌≡◌, ◌<◌, ◌^◌, ◌++◌, ◌↔◌, length, IsTrue, OnOk, Option, IfSome};
-ghost use Rattle.kms_record.specs.Fields.{u8_bytes, u16_bytes, u64_bytes, text_bytes, option_bytes, kind_number, IsShort, IsBitLength};
-ghost use Rattle.kms_world.specs.Times.{end_of_times};
-ghost use Rattle.std.specs.Str.{IsUtf8};
-ghost use Rattle.kms_record.specs.Reading.{Finds, Gives, id_at, time_at, bit_length_at, short_text_at, text_at, name_at, kind_at, mark_at, option_at};
+// The fields of changes, read.
+ghost use Rattle.std.specs.Prelude.{◌≡◌};
+ghost use Rattle.kms_record.specs.Reading.{Finds, Gives, id_at, time_at, bit_length_at, short_text_at, filled_text_at, text_at, long_text_at, token_at, taken, name_at, secret_kind_at, container_kind_at, media_at, cause_at, mark_at, option_at, list_count_at};
 
 use crate::cursor::Cursor;
 use crate::read_error::{Malformed, ReadError};
-use kms_world::{Bytes, Name, NoMemory, SecretKind, Text};
+use crate::range;
+use kms_world::{Bytes, Cause, ContainerKind, Media, Name, SecretKind, Text};
 use std::alloc::Global;
-
-/// The first second of the year 10000, in seconds since 1970.
-const END_OF_TIMES: u64 = 253_402_300_800;
-
-/// It is a time that has a text.
-pub fn is_time(time: u64) -> bool
-    ensures { IsTrue result ↔ (time < end_of_times) }
-{
-    time < END_OF_TIMES
-}
-
-/// Where there is a time, it has a text.
-pub fn is_expiration(time: Option<u64>) -> bool
-    ensures { IsTrue result ↔ IfSome time (λ t. t < end_of_times) }
-{
-    match time {
-        None => true,
-        Some(time) => is_time(time),
-    }
-}
-
-/// Where there is a text, it has at most 255 bytes.
-pub fn is_short(text: &Option<Text>) -> bool
-    ensures { IsTrue result ↔ IfSome text.now IsShort }
-{
-    match text {
-        None => true,
-        Some(text) => text.as_str().len() <= 255,
-    }
-}
-
-/// Where there is a length in bits, it is 1 to 32,767.
-pub fn is_bit_length(bits: Option<u16>) -> bool
-    ensures { IsTrue result ↔ IfSome bits IsBitLength }
-{
-    match bits {
-        None => true,
-        Some(bits) => 1 <= bits && bits <= 32_767,
-    }
-}
 
 /// The count of an id under the store's tag.
 pub fn id(cursor: &mut Cursor<'_>) -> Result<u64, Malformed>
     ensures { Finds (λ x. (x, cursor.new)) result (id_at cursor.old) }
 {
     let count = cursor.eight_bytes()?;
-    if count < 1 << 62 {
+    if range::is_id(count) {
         Ok(count)
     } else {
         Err(Malformed)
@@ -67,7 +25,7 @@ pub fn time(cursor: &mut Cursor<'_>) -> Result<u64, Malformed>
     ensures { Finds (λ x. (x, cursor.new)) result (time_at cursor.old) }
 {
     let time = cursor.eight_bytes()?;
-    if is_time(time) {
+    if range::is_time(time) {
         Ok(time)
     } else {
         Err(Malformed)
@@ -79,7 +37,7 @@ pub fn bit_length(cursor: &mut Cursor<'_>) -> Result<u16, Malformed>
     ensures { Finds (λ x. (x, cursor.new)) result (bit_length_at cursor.old) }
 {
     let bits = cursor.two_bytes()?;
-    if 1 <= bits && bits <= 32_767 {
+    if range::is_bit_length(bits) {
         Ok(bits)
     } else {
         Err(Malformed)
@@ -119,9 +77,9 @@ pub fn name(cursor: &mut Cursor<'_>) -> Result<Name, Malformed>
 }
 
 /// A secret's kind.
-#[tactic(auto, unfolding(crate::specs::Reading::kind_at))]
-pub fn kind(cursor: &mut Cursor<'_>) -> Result<SecretKind, Malformed>
-    ensures { Finds (λ x. (x, cursor.new)) result (kind_at cursor.old) }
+#[tactic(auto, unfolding(crate::specs::Reading::coded_at))]
+pub fn secret_kind(cursor: &mut Cursor<'_>) -> Result<SecretKind, Malformed>
+    ensures { Finds (λ x. (x, cursor.new)) result (secret_kind_at cursor.old) }
 {
     match cursor.byte()? {
         0 => Ok(SecretKind::Symmetric),
@@ -134,9 +92,102 @@ pub fn kind(cursor: &mut Cursor<'_>) -> Result<SecretKind, Malformed>
     }
 }
 
-// Whether a value follows.
+/// A container's kind.
+#[tactic(auto, unfolding(crate::specs::Reading::coded_at))]
+pub fn container_kind(cursor: &mut Cursor<'_>) -> Result<ContainerKind, Malformed>
+    ensures { Finds (λ x. (x, cursor.new)) result (container_kind_at cursor.old) }
+{
+    match cursor.byte()? {
+        0 => Ok(ContainerKind::Generic),
+        1 => Ok(ContainerKind::Rsa),
+        2 => Ok(ContainerKind::Certificate),
+        _ => Err(Malformed),
+    }
+}
+
+/// The media type of a payload.
+#[tactic(auto, unfolding(crate::specs::Reading::coded_at))]
+pub fn media(cursor: &mut Cursor<'_>) -> Result<Media, Malformed>
+    ensures { Finds (λ x. (x, cursor.new)) result (media_at cursor.old) }
+{
+    match cursor.byte()? {
+        0 => Ok(Media::TextPlain),
+        1 => Ok(Media::OctetStream),
+        _ => Err(Malformed),
+    }
+}
+
+/// Why an order failed.
+#[tactic(auto, unfolding(crate::specs::Reading::coded_at))]
+pub fn cause(cursor: &mut Cursor<'_>) -> Result<Cause, Malformed>
+    ensures { Finds (λ x. (x, cursor.new)) result (cause_at cursor.old) }
+{
+    match cursor.byte()? {
+        0 => Ok(Cause::Unsupported),
+        1 => Ok(Cause::QuotaReached),
+        2 => Ok(Cause::IdsSpent),
+        _ => Err(Malformed),
+    }
+}
+
+/// The bytes of a wrapped key.
+pub fn wrapped(cursor: &mut Cursor<'_>) -> Result<[u8; 140], Malformed>
+    ensures { Finds (λ x. (x, cursor.new)) result (taken 140 cursor.old) }
+{
+    let bytes = cursor.take(140)?;
+    let mut wrapped = [0; 140];
+    wrapped.copy_from_slice(bytes);
+    Ok(wrapped)
+}
+
+#[tactic(auto, unfolding(crate::specs::Reading::long_text_at))]
+fn long_bytes<'a>(cursor: &mut Cursor<'a>) -> Result<&'a [u8], Malformed>
+    ensures { Finds (λ x. (x.now, cursor.new)) result (long_text_at cursor.old) }
+{
+    let len = cursor.four_bytes()?;
+    cursor.take(len as usize)
+}
+
+/// A token of 100 to 26,764 bytes.
+pub fn token(alloc: Global, cursor: &mut Cursor<'_>) -> Result<Bytes, ReadError>
+    ensures { Gives (λ x. (x, cursor.new)) result (token_at cursor.old) }
+{
+    let bytes = long_bytes(cursor)?;
+    if bytes.len() < 100 || 26_764 < bytes.len() {
+        return Err(ReadError::Malformed);
+    }
+    Ok(Bytes::of(alloc, bytes)?)
+}
+
+/// UTF-8 text of 1 to 255 bytes.
+pub fn filled_text(alloc: Global, cursor: &mut Cursor<'_>) -> Result<Text, ReadError>
+    ensures { Gives (λ x. (x, cursor.new)) result (filled_text_at cursor.old) }
+{
+    let bytes = text_bytes(cursor)?;
+    if bytes.len() < 1 || 255 < bytes.len() {
+        return Err(ReadError::Malformed);
+    }
+    match std::str::from_utf8(bytes) {
+        Ok(text) => Ok(Text::of(alloc, text)?),
+        Err(_) => Err(ReadError::Malformed),
+    }
+}
+
+/// How many values a list has, at most 100.
+pub fn list_count(cursor: &mut Cursor<'_>) -> Result<u8, Malformed>
+    ensures { Finds (λ x. (x, cursor.new)) result (list_count_at cursor.old) }
+{
+    let count = cursor.byte()?;
+    if count <= 100 {
+        Ok(count)
+    } else {
+        Err(Malformed)
+    }
+}
+
+/// Yes or no; before an optional value, whether it follows.
 #[tactic(auto, unfolding(crate::specs::Reading::mark_at))]
-fn mark(cursor: &mut Cursor<'_>) -> Result<bool, Malformed>
+pub fn mark(cursor: &mut Cursor<'_>) -> Result<bool, Malformed>
     ensures { Finds (λ x. (x, cursor.new)) result (mark_at cursor.old) }
 {
     match cursor.byte()? {
@@ -179,72 +230,3 @@ pub fn optional_time(cursor: &mut Cursor<'_>) -> Result<Option<u64>, Malformed>
     Ok(Some(time(cursor)?))
 }
 
-#[tactic(auto, unfolding(crate::specs::Fields::u64_bytes))]
-pub fn put_number(out: &mut Bytes, number: u64) -> Result<(), NoMemory>
-    ensures { OnOk result (out.new ≡ out.old ++ u64_bytes number) }
-{
-    out.push_all(&number.to_be_bytes())
-}
-
-#[tactic(auto, unfolding(crate::specs::Fields::text_bytes, crate::specs::Fields::u16_bytes))]
-pub fn put_text(out: &mut Bytes, text: &[u8]) -> Result<(), NoMemory>
-    requires { length text.now < 2 ^ 16 }
-    ensures { OnOk result (out.new ≡ out.old ++ text_bytes text.now) }
-{
-    out.push_all(&(text.len() as u16).to_be_bytes())?;
-    out.push_all(text)
-}
-
-#[tactic(auto, unfolding(crate::specs::Fields::u8_bytes))]
-pub fn put_kind(out: &mut Bytes, kind: SecretKind) -> Result<(), NoMemory>
-    ensures { OnOk result (out.new ≡ out.old ++ u8_bytes (kind_number kind)) }
-{
-    let number: u8 = match kind {
-        SecretKind::Symmetric => 0,
-        SecretKind::Public => 1,
-        SecretKind::Private => 2,
-        SecretKind::Passphrase => 3,
-        SecretKind::Certificate => 4,
-        SecretKind::Opaque => 5,
-    };
-    out.push_all(&[number])
-}
-
-pub fn put_optional_text(out: &mut Bytes, text: &Option<Text>) -> Result<(), NoMemory>
-    requires { IfSome text.now IsShort }
-    ensures spelled { OnOk result (out.new ≡ out.old ++ option_bytes text_bytes text.now) }
-    ensures utf8 { OnOk result (IfSome text.now IsUtf8) }
-{
-    match text {
-        None => out.push_all(&[0]),
-        Some(text) => {
-            out.push_all(&[1])?;
-            put_text(out, text.as_str().as_bytes())
-        }
-    }
-}
-
-#[tactic(auto, unfolding(crate::specs::Fields::u16_bytes))]
-pub fn put_optional_bit_length(out: &mut Bytes, bits: Option<u16>) -> Result<(), NoMemory>
-    ensures { OnOk result (out.new ≡ out.old ++ option_bytes u16_bytes bits) }
-{
-    match bits {
-        None => out.push_all(&[0]),
-        Some(bits) => {
-            out.push_all(&[1])?;
-            out.push_all(&bits.to_be_bytes())
-        }
-    }
-}
-
-pub fn put_optional_time(out: &mut Bytes, time: Option<u64>) -> Result<(), NoMemory>
-    ensures { OnOk result (out.new ≡ out.old ++ option_bytes u64_bytes time) }
-{
-    match time {
-        None => out.push_all(&[0]),
-        Some(time) => {
-            out.push_all(&[1])?;
-            put_number(out, time)
-        }
-    }
-}

@@ -1,20 +1,41 @@
 //! Steps and snapshots as bytes, and back: changes of the key manager's state, spelled one way each.
 #![tactic(auto)]
 
+mod acl;
 mod change;
+mod consumer;
+mod container;
 mod cursor;
 mod decode;
 mod encode;
 mod fields;
+mod key;
 pub mod laws;
+mod member;
+mod metadata;
+mod order;
+mod payload;
+mod quota;
+mod range;
 mod read_error;
 mod secret_put;
+mod spell;
 mod step;
+mod window;
 #[cfg(test)]
 mod tests;
 
+pub use acl::AclPut;
 pub use change::{Change, Changes};
+pub use consumer::{ConsumerAdded, ConsumerDropped};
+pub use container::ContainerPut;
 pub use decode::{decode_base, decode_body};
 pub use encode::encode_step;
+pub use key::{KeyDropped, WrappedKey};
+pub use member::{Member, MemberList};
+pub use metadata::MetadataPut;
+pub use order::{OrderPut, OrderPutState};
+pub use payload::{PayloadPut, TokenReplaced};
+pub use quota::{QuotaLimit, QuotaLimits, QuotaPut};
 pub use secret_put::SecretPut;
 pub use step::{Step, Steps};

@@ -5,7 +5,10 @@ ghost use Rattle.kms_record.specs.SecretPutReading.{secret_put_at};
 
 use crate::cursor::Cursor;
 use crate::fields;
+use crate::range;
 use crate::read_error::ReadError;
+use crate::spell;
+use crate::window::Window;
 use kms_world::{Bytes, Name, NoMemory, Pairs, SecretKind, SecretRow, Text, id_of};
 use std::alloc::Global;
 
@@ -44,13 +47,14 @@ pub fn read_secret_put(alloc: Global, cursor: &mut Cursor<'_>) -> Result<SecretP
         algorithm: fields::optional_text(alloc, cursor)?,
         bit_length: fields::optional_bit_length(cursor)?,
         mode: fields::optional_text(alloc, cursor)?,
-        kind: fields::kind(cursor)?,
+        kind: fields::secret_kind(cursor)?,
         expiration: fields::optional_time(cursor)?,
     })
 }
 
 impl SecretPut {
     ghost use Rattle.std.specs.Prelude.{◌≡◌, ◌<◌, ◌^◌, ◌++◌, ◌↔◌, IsTrue, IfOk, OnOk};
+    ghost use Rattle.kms_record.specs.Window.{shown};
     ghost use Rattle.kms_record.specs.SecretPut.{secret_put_bytes, IsInRange, IsTextual, row_of, put_of};
 
     /// What puts this row's attributes under the id of this count.
@@ -99,36 +103,36 @@ impl SecretPut {
     pub fn is_in_range(&self) -> bool
         ensures { IsTrue result ↔ IsInRange self.now }
     {
-        self.id < 1 << 62
-            && self.project.as_bytes().len() <= 64
-            && self.creator.as_bytes().len() <= 64
-            && fields::is_time(self.created)
-            && fields::is_time(self.updated)
-            && fields::is_short(&self.name)
-            && fields::is_short(&self.algorithm)
-            && fields::is_bit_length(self.bit_length)
-            && fields::is_short(&self.mode)
-            && fields::is_expiration(self.expiration)
+        range::is_id(self.id)
+            && range::is_short_name(&self.project)
+            && range::is_short_name(&self.creator)
+            && range::is_time(self.created)
+            && range::is_time(self.updated)
+            && range::is_short(&self.name)
+            && range::is_short(&self.algorithm)
+            && range::is_optional_bit_length(self.bit_length)
+            && range::is_short(&self.mode)
+            && range::is_expiration(self.expiration)
     }
 
-    /// Writes the fields behind the bytes.
-    #[tactic(auto, unfolding(crate::specs::SecretPut::secret_put_bytes))]
-    pub(crate) fn write(&self, out: &mut Bytes) -> Result<(), NoMemory>
+    /// Writes the fields.
+    #[tactic(auto, using(crate::proofs::WindowLaws::shown_twice), unfolding(crate::specs::SecretPut::secret_put_bytes))]
+    pub(crate) fn write(&self, out: &mut Window)
         requires { IsInRange self.now }
-        ensures spelled { OnOk result (out.new ≡ out.old ++ secret_put_bytes self.now) }
-        ensures textual { OnOk result (IsTextual self.now) }
+        ensures spelled { out.new ≡ shown out.old (secret_put_bytes self.now) }
+        ensures textual { IsTextual self.now }
     {
-        fields::put_number(out, self.id)?;
-        fields::put_text(out, self.project.as_bytes())?;
-        fields::put_text(out, self.creator.as_bytes())?;
-        fields::put_number(out, self.created)?;
-        fields::put_number(out, self.updated)?;
-        fields::put_optional_text(out, &self.name)?;
-        fields::put_optional_text(out, &self.algorithm)?;
-        fields::put_optional_bit_length(out, self.bit_length)?;
-        fields::put_optional_text(out, &self.mode)?;
-        fields::put_kind(out, self.kind)?;
-        fields::put_optional_time(out, self.expiration)
+        spell::number(out, self.id);
+        spell::name(out, &self.project);
+        spell::name(out, &self.creator);
+        spell::number(out, self.created);
+        spell::number(out, self.updated);
+        spell::optional_text(out, &self.name);
+        spell::optional_text(out, &self.algorithm);
+        spell::optional_bit_length(out, self.bit_length);
+        spell::optional_text(out, &self.mode);
+        spell::secret_kind(out, self.kind);
+        spell::optional_time(out, self.expiration);
     }
 }
 

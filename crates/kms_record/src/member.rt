@@ -1,0 +1,64 @@
+// The secrets that a container names.
+ghost use Rattle.std.specs.Prelude.{◌≡◌, ◌++◌, [], ◌∷◌, OnOk, OnErr};
+
+use kms_world::{NoMemory, Text};
+use std::alloc::Global;
+use std::marker::Model;
+
+/// A secret that a container names, maybe under a name of its own.
+#[derive(Drop, Debug)]
+pub struct Member {
+    /// at most 255 bytes
+    pub name: Option<Text>,
+    /// the count of the secret's id under the store's tag, below 2^62
+    pub secret: u64,
+}
+
+/// The secrets that a container names, in their order. Contracts see the list.
+#[derive(Drop, Debug)]
+pub struct MemberList {
+    members: Vec<Member>,
+}
+
+impl Model for MemberList {
+    ghost use Rattle.std.specs.Prelude.{List};
+    ghost use Rattle.kms_record.specs.declared.member.Member.{Member};
+
+    ghost Value = { List Member };
+
+    ghost view = { λ m. m.members.items };
+}
+
+impl MemberList {
+    /// No members; takes no memory.
+    pub fn new(alloc: Global) -> MemberList
+        ensures { result ≡ [] }
+    {
+        MemberList {
+            members: Vec::new(alloc),
+        }
+    }
+
+    /// Puts a member behind the others. After `NoMemory` they are as before.
+    pub fn push(&mut self, member: Member) -> Result<(), NoMemory>
+        ensures ok { OnOk result (self.new ≡ self.old ++ member ∷ []) }
+        ensures err { OnErr result (self.new ≡ self.old) }
+    {
+        self.members.push(member)?;
+        Ok(())
+    }
+
+    /// The members in their order.
+    pub fn as_slice(&self) -> &[Member]
+        ensures { result.now ≡ self.now }
+    {
+        &self.members
+    }
+
+    /// The members, with the memory that they have.
+    pub fn into_vec(self) -> Vec<Member>
+        ensures { result.items ≡ self }
+    {
+        self.members
+    }
+}
