@@ -13,7 +13,7 @@ use Rattle.kms_record.specs.Fields.{u8_bytes, u16_bytes, u32_bytes, u64_bytes, t
 use Rattle.kms_record.specs.Reading.{◌>>=◌, Read, taken, byte_at, number_at, id_at, time_at, bit_length_at, text_at, short_text_at, filled_text_at, long_text_at, token_at, name_at, mark_at, option_at}
 use Rattle.kms_record.proofs.Codec.{IsBytes, IsBytes-drop, IsBytes-take, IsBytes-rest, bind_some, passed, not_refused, found, some_is, Takes, Takes-then, IsCodec, refitted, passing_codec}
 
-both_true : (a b : Bool) → (a && b) ≡ true → (a ≡ true) × (b ≡ true)
+pub both_true : (a b : Bool) → (a && b) ≡ true → (a ≡ true) × (b ≡ true)
 both_true true b h = (refl, h)
 both_true false b h = absurd cc
 

@@ -6,14 +6,22 @@ use Rattle.std.proofs.lemmas.Bool.{eqb-true}
 use Rattle.std.proofs.lemmas.List.{append-nil, nil_from_length}
 use Rattle.std.proofs.lemmas.List.Concat.{flat_map-cons}
 use Rattle.kms_record.specs.declared.change.Change.{Change}
-use Rattle.kms_record.specs.declared.change.Change.TheVariants.{SecretPut}
+use Rattle.kms_record.specs.declared.change.Change.TheVariants.{KeyAdded, KeyRewrapped, TokenReplaced, KeyDropped, SecretPut, PayloadPut, MetadataPut, ContainerPut, ConsumerAdded, ConsumerDropped, AclPut, AclDropped, OrderPut, QuotaPut, Deleted}
 use Rattle.kms_record.specs.Grammar.{change_bytes, IsChange, step_bytes, IsStep, record_bytes, AreSteps, snapshot_bytes, AreChanges, IsRecord, IsSnapshot}
-use Rattle.kms_record.specs.Reading.{◌>>=◌, Read, byte_at, number_at, many}
-use Rattle.kms_record.specs.SecretPutReading.{secret_put_at}
-use Rattle.kms_record.specs.GrammarReading.{change_at, step_at, alone, record_of, snapshot_of}
+use Rattle.kms_record.specs.Reading.{◌>>=◌, Read, byte_at, number_at, many, alternatives_at}
+use Rattle.kms_record.specs.GrammarReading.{changes_by_kind, change_at, step_at, alone, record_of, snapshot_of}
 use Rattle.kms_record.proofs.Codec.{IsBytes, IsBytes-rest, bind_some, passed, not_refused, some_is, Takes, Takes-then, IsCodec, refitted}
-use Rattle.kms_record.proofs.FieldLaws.{u16_codec, u32_codec, u64_codec}
-use Rattle.kms_record.proofs.SecretLaws.{secret_codec}
+use Rattle.kms_record.proofs.FieldLaws.{u16_codec, u32_codec, u64_codec, id_codec}
+use Rattle.kms_record.proofs.ListLaws.{counted, counted_codec, some_counted, some_counted_codec, IsAlternative, alternatives_codec, made_alternative}
+use Rattle.kms_record.proofs.KeyLaws.{wrapped_key_codec, key_dropped_codec}
+use Rattle.kms_record.proofs.PayloadLaws.{token_replaced_codec, payload_put_codec}
+use Rattle.kms_record.proofs.SecretLaws.{secret_put_codec}
+use Rattle.kms_record.proofs.MetadataLaws.{metadata_put_codec}
+use Rattle.kms_record.proofs.ContainerLaws.{container_put_codec}
+use Rattle.kms_record.proofs.ConsumerLaws.{consumer_added_codec, consumer_dropped_codec}
+use Rattle.kms_record.proofs.AclLaws.{acl_put_codec}
+use Rattle.kms_record.proofs.OrderLaws.{order_put_codec}
+use Rattle.kms_record.proofs.QuotaLaws.{quota_put_codec}
 
 passed_on : {A : Type 0} (b : Bool) (o : Option A) (y : A) → cond b o None ≡ Some y → (b ≡ true) × (o ≡ Some y)
 passed_on true o y e = (refl, e)
@@ -21,23 +29,43 @@ passed_on false o y e = absurd cc
 
 -- ---- changes, steps, records, snapshots
 
-change_takes : (bytes : List ℕ) (x : Change × List ℕ) → IsBytes bytes → change_at bytes ≡ Some x → Takes bytes (change_bytes x.0) x.1 × IsChange x.0
-unfolding change_at byte_at
-change_takes [] x fits e = absurd cc
-change_takes (b ∷ bytes) x fits e =
-    let g = passed_on (eqb b 5) (secret_put_at bytes >>= λ put. Some (SecretPut put.0, put.1)) x e in
-    let a = bind_some (secret_put_at bytes) (λ put. Some (SecretPut put.0, put.1)) x g.1 in
-    let t = secret_codec.takes bytes a.0 (IsBytes-rest b bytes fits) a.1 in
-    let made : Change × List ℕ = (SecretPut a.0.0, a.0.1) in
-    subst (λ (y : Change × List ℕ). Takes (b ∷ bytes) (change_bytes y.0) y.1 × IsChange y.0) (some_is made x a.2)
-    (record { parts = ap (λ (n : ℕ). n ∷ bytes) (eqb-true _ _ g.0) ∙ ap (λ (w : List ℕ). 5 ∷ w) t.0.parts; rest_fits = t.0.rest_fits }, t.1)
-
 change_again : (change : Change) (rest : List ℕ) → IsChange change → change_at (change_bytes change ++ rest) ≡ Some (change, rest)
-unfolding change_at byte_at
-change_again (SecretPut put) rest fits = rw (secret_codec.again put rest fits) refl
+unfolding alternatives_at byte_at
+change_again (KeyAdded put) rest fits = rw (wrapped_key_codec.again put rest fits) refl
+change_again (KeyRewrapped put) rest fits = rw (wrapped_key_codec.again put rest fits) refl
+change_again (TokenReplaced put) rest fits = rw (token_replaced_codec.again put rest fits) refl
+change_again (KeyDropped put) rest fits = rw (key_dropped_codec.again put rest fits) refl
+change_again (SecretPut put) rest fits = rw (secret_put_codec.again put rest fits) refl
+change_again (PayloadPut put) rest fits = rw (payload_put_codec.again put rest fits) refl
+change_again (MetadataPut put) rest fits = rw (metadata_put_codec.again put rest fits) refl
+change_again (ContainerPut put) rest fits = rw (container_put_codec.again put rest fits) refl
+change_again (ConsumerAdded put) rest fits = rw (consumer_added_codec.again put rest fits) refl
+change_again (ConsumerDropped put) rest fits = rw (consumer_dropped_codec.again put rest fits) refl
+change_again (AclPut put) rest fits = rw (acl_put_codec.again put rest fits) refl
+change_again (AclDropped id) rest fits = rw (id_codec.again id rest fits) refl
+change_again (OrderPut put) rest fits = rw (order_put_codec.again put rest fits) refl
+change_again (QuotaPut put) rest fits = rw (quota_put_codec.again put rest fits) refl
+change_again (Deleted id) rest fits = rw (id_codec.again id rest fits) refl
 
 pub change_codec : IsCodec change_bytes IsChange change_at
-change_codec = record { takes = change_takes; again = change_again }
+change_codec = alternatives_codec changes_by_kind
+    (made_alternative 1 (λ put. KeyAdded put) wrapped_key_codec (λ put. refl) (λ put f. f),
+    (made_alternative 2 (λ put. KeyRewrapped put) wrapped_key_codec (λ put. refl) (λ put f. f),
+    (made_alternative 3 (λ put. TokenReplaced put) token_replaced_codec (λ put. refl) (λ put f. f),
+    (made_alternative 4 (λ put. KeyDropped put) key_dropped_codec (λ put. refl) (λ put f. f),
+    (made_alternative 5 (λ put. SecretPut put) secret_put_codec (λ put. refl) (λ put f. f),
+    (made_alternative 6 (λ put. PayloadPut put) payload_put_codec (λ put. refl) (λ put f. f),
+    (made_alternative 7 (λ put. MetadataPut put) metadata_put_codec (λ put. refl) (λ put f. f),
+    (made_alternative 8 (λ put. ContainerPut put) container_put_codec (λ put. refl) (λ put f. f),
+    (made_alternative 9 (λ put. ConsumerAdded put) consumer_added_codec (λ put. refl) (λ put f. f),
+    (made_alternative 10 (λ put. ConsumerDropped put) consumer_dropped_codec (λ put. refl) (λ put f. f),
+    (made_alternative 11 (λ put. AclPut put) acl_put_codec (λ put. refl) (λ put f. f),
+    (made_alternative 12 (λ id. AclDropped id) id_codec (λ id. refl) (λ id f. f),
+    (made_alternative 13 (λ put. OrderPut put) order_put_codec (λ put. refl) (λ put f. f),
+    (made_alternative 14 (λ put. QuotaPut put) quota_put_codec (λ put. refl) (λ put f. f),
+    (made_alternative 15 (λ id. Deleted id) id_codec (λ id. refl) (λ id f. f),
+    tt)))))))))))))))
+    change_again
 
 pub step_codec : IsCodec step_bytes IsStep step_at
 unfolding step_at

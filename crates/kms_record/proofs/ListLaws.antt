@@ -125,9 +125,9 @@ unfolding alternatives_at byte_at
 alternatives_take {A} spell F alternatives each [] x fits e = absurd cc
 alternatives_take {A} spell F alternatives each (b ∷ bytes) x fits e = chosen_takes spell F alternatives each b bytes x (IsBytes-rest b bytes fits) e
 
-pub alternatives_codec : {A : Type 0} {spell : A → List ℕ} {F : A → Type 0} {alternatives : List (ℕ × Read A)} → AllByRecursion (IsAlternative spell F) alternatives
+pub alternatives_codec : {A : Type 0} {spell : A → List ℕ} {F : A → Type 0} (alternatives : List (ℕ × Read A)) → AllByRecursion (IsAlternative spell F) alternatives
     → ((x : A) (rest : List ℕ) → F x → alternatives_at alternatives (spell x ++ rest) ≡ Some (x, rest)) → IsCodec spell F (alternatives_at alternatives)
-alternatives_codec {A} {spell} {F} {alternatives} each again = record { takes = alternatives_take spell F alternatives each; again = again }
+alternatives_codec {A} {spell} {F} alternatives each again = record { takes = alternatives_take spell F alternatives each; again = again }
 
 -- what is made of another value is an alternative
 pub made_alternative : {A B : Type 0} {spell : A → List ℕ} {F : A → Type 0} {read : Read B} {inner : B → List ℕ} {G : B → Type 0} (n : ℕ) (make : B → A) → IsCodec inner G read

@@ -14,26 +14,25 @@ drop-append zero a b = let e : 0 - length a ≡ 0 = omega arith in rw e refl
 drop-append (suc n) [] b = let e : suc n - 0 ≡ suc n = omega arith in rw e refl
 drop-append (suc n) (x ∷ a) b = let e : suc n - suc (length a) ≡ n - length a = omega arith in rw e (drop-append n a b)
 
-take-append-take : (n : ℕ) (a b : List ℕ) → take n (take n a ++ b) ≡ take n (a ++ b)
-take-append-take zero a b = refl
-take-append-take (suc n) [] b = refl
-take-append-take (suc n) (x ∷ a) b = ap (λ (l : List ℕ). x ∷ l) (take-append-take n a b)
+take-append : (n : ℕ) (a b : List ℕ) → take n (a ++ b) ≡ take n a ++ take (n - length a) b
+take-append zero a b = let e : 0 - length a ≡ 0 = omega arith in rw e refl
+take-append (suc n) [] b = let e : suc n - 0 ≡ suc n = omega arith in rw e refl
+take-append (suc n) (x ∷ a) b = let e : suc n - suc (length a) ≡ n - length a = omega arith in rw e (ap (λ (l : List ℕ). x ∷ l) (take-append n a b))
 
 both_shown : (n : ℕ) (s : Shown) (a b : List ℕ) → shown_in n (shown_in n s a) b ≡ shown_in n s (a ++ b)
 both_shown n s a b =
-    made (s.unseen - length a - length b) (s.unseen - length (a ++ b)) (take n (take n (s.bytes ++ drop s.unseen a) ++ drop (s.unseen - length a) b)) (take n (s.bytes ++ drop s.unseen (a ++ b)))
+    let x : List ℕ = s.bytes in
+    let m : ℕ = n - length x in
+    let first : List ℕ = drop s.unseen a in
+    let second : List ℕ = drop (s.unseen - length a) b in
+    let left : n - length (x ++ take m first) ≡ m - length first = omega (arith, length-append x (take m first), length-take m first) in
+    made (s.unseen - length a - length b) (s.unseen - length (a ++ b)) ((x ++ take m first) ++ take (n - length (x ++ take m first)) second) (x ++ take m (drop s.unseen (a ++ b)))
     (omega (arith, length-append a b))
-    (take-append-take n (s.bytes ++ drop s.unseen a) (drop (s.unseen - length a) b)
-    ∙ ap (take n) (append_assoc s.bytes (drop s.unseen a) (drop (s.unseen - length a) b) ∙ ap (λ (l : List ℕ). s.bytes ++ l) (sym (drop-append s.unseen a b))))
+    (rw left (append_assoc x (take m first) (take (m - length first) second) ∙ ap (λ (l : List ℕ). x ++ l) (sym (take-append m first second) ∙ ap (take m) (sym (drop-append s.unseen a b)))))
 
 pub shown_twice : (s : Shown) (a b : List ℕ) → shown (shown s a) b ≡ shown s (a ++ b)
 unfolding shown
 shown_twice s a b = both_shown 1024 s a b
-
-take-after : (n : ℕ) (a b : List ℕ) → length a ≤ n → take n (a ++ b) ≡ a ++ take (n - length a) b
-take-after n [] b le = let e : n - 0 ≡ n = omega arith in rw e refl
-take-after zero (x ∷ a) b le = absurd (omega (arith, le))
-take-after (suc n) (x ∷ a) b le = let e : suc n - suc (length a) ≡ n - length a = omega arith in rw e (ap (λ (l : List ℕ). x ∷ l) (take-after n a b (omega (arith, le))))
 
 take-min : (m : ℕ) (b : List ℕ) → take (min (length b) m) b ≡ take m b
 take-min m b =
@@ -59,11 +58,13 @@ put_shows n unseen count passed more k bytes piece ys le len p m y =
     let front : length (take count bytes) ≡ count = length-take-le count bytes (omega (arith, le, len)) in
     let part : ys ≡ take (n - count) seen = y ∙ rw m (take-min (n - count) seen) in
     let long : length ys ≡ more = rw y (omega (arith, length-take more seen, m)) in
-    made (unseen - passed) (unseen - length piece) (take (count + more) (put_mid count k bytes ys)) (take n (take count bytes ++ drop unseen piece)) (omega (arith, p))
-    (take-put_mid count k bytes ys (count + more) (omega (arith, long)) (omega (arith, le, len))
-    ∙ ap (λ (l : List ℕ). take count bytes ++ l) (part ∙ ap (take (n - count)) same)
-    ∙ sym (take-after n (take count bytes) (drop unseen piece) (omega (arith, front, le)) ∙ rw front refl))
+    made (unseen - passed) (unseen - length piece) (take (count + more) (put_mid count k bytes ys)) (take count bytes ++ take (n - length (take count bytes)) (drop unseen piece)) (omega (arith, p))
+    (take-put_mid count k bytes ys (count + more) (omega (arith, long)) (omega (arith, le, len)) ∙ rw front (ap (λ (l : List ℕ). take count bytes ++ l) (part ∙ ap (take (n - count)) same)))
 
--- what is shown of one piece and another behind it
-pub shown_both : (s t u : Shown) (a b : List ℕ) → t ≡ shown s a → u ≡ shown t b → u ≡ shown s (a ++ b)
-shown_both s t u a b p q = q ∙ ap (λ (x : Shown). shown x b) p ∙ shown_twice s a b
+-- nothing changes where nothing is written
+pub shown_none : (s : Shown) → shown s [] ≡ s
+unfolding shown
+shown_none s =
+    let e : s.unseen - 0 ≡ s.unseen = omega arith in
+    let none : drop s.unseen (let l : List ℕ = [] in l) ≡ [] = drop_all s.unseen [] (omega arith) in
+    rw (e, none) (made s.unseen s.unseen (s.bytes ++ take (1024 - length s.bytes) []) s.bytes refl (ap (λ (l : List ℕ). s.bytes ++ l) (take_all (1024 - length s.bytes) [] (omega arith)) ∙ append-nil s.bytes))

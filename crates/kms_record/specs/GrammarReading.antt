@@ -1,15 +1,41 @@
 -- How changes, steps, records and snapshots are read.
-use Rattle.std.specs.Prelude.{ℕ, List, length, Option, Some, None, ◌==◌, if◌then◌else◌}
+use Rattle.std.specs.Prelude.{ℕ, List, [], ◌∷◌, length, Option, Some, None, ◌==◌, if◌then◌else◌}
 use Rattle.std.specs.Int.{w16, w32, w64}
 use Rattle.kms_record.specs.declared.change.Change.{Change}
-use Rattle.kms_record.specs.declared.change.Change.TheVariants.{SecretPut}
-use Rattle.kms_record.specs.Reading.{◌>>=◌, Read, byte_at, number_at, made_of, many}
+use Rattle.kms_record.specs.declared.change.Change.TheVariants.{KeyAdded, KeyRewrapped, TokenReplaced, KeyDropped, SecretPut, PayloadPut, MetadataPut, ContainerPut, ConsumerAdded, ConsumerDropped, AclPut, AclDropped, OrderPut, QuotaPut, Deleted}
+use Rattle.kms_record.specs.Reading.{◌>>=◌, Read, number_at, id_at, alternatives_at, made_of, many}
+use Rattle.kms_record.specs.KeyReading.{wrapped_key_at, key_dropped_at}
+use Rattle.kms_record.specs.PayloadReading.{token_replaced_at, payload_put_at}
 use Rattle.kms_record.specs.SecretPutReading.{secret_put_at}
+use Rattle.kms_record.specs.MetadataReading.{metadata_put_at}
+use Rattle.kms_record.specs.ContainerReading.{container_put_at}
+use Rattle.kms_record.specs.ConsumerReading.{consumer_added_at, consumer_dropped_at}
+use Rattle.kms_record.specs.AclReading.{acl_put_at}
+use Rattle.kms_record.specs.OrderReading.{order_put_at}
+use Rattle.kms_record.specs.QuotaReading.{quota_put_at}
 
-unfoldable pub change_at : Read Change
-change_at bytes = do
-  kind ← byte_at bytes
-  if kind.0 == 5 then made_of (λ put. SecretPut put) secret_put_at kind.1 else None
+-- the kinds of change by their numbers
+abbrev pub changes_by_kind : List (ℕ × Read Change)
+changes_by_kind =
+    (1, made_of (λ put. KeyAdded put) wrapped_key_at)
+    ∷ (2, made_of (λ put. KeyRewrapped put) wrapped_key_at)
+    ∷ (3, made_of (λ put. TokenReplaced put) token_replaced_at)
+    ∷ (4, made_of (λ put. KeyDropped put) key_dropped_at)
+    ∷ (5, made_of (λ put. SecretPut put) secret_put_at)
+    ∷ (6, made_of (λ put. PayloadPut put) payload_put_at)
+    ∷ (7, made_of (λ put. MetadataPut put) metadata_put_at)
+    ∷ (8, made_of (λ put. ContainerPut put) container_put_at)
+    ∷ (9, made_of (λ put. ConsumerAdded put) consumer_added_at)
+    ∷ (10, made_of (λ put. ConsumerDropped put) consumer_dropped_at)
+    ∷ (11, made_of (λ put. AclPut put) acl_put_at)
+    ∷ (12, made_of (λ id. AclDropped id) id_at)
+    ∷ (13, made_of (λ put. OrderPut put) order_put_at)
+    ∷ (14, made_of (λ put. QuotaPut put) quota_put_at)
+    ∷ (15, made_of (λ id. Deleted id) id_at)
+    ∷ []
+
+abbrev pub change_at : Read Change
+change_at = alternatives_at changes_by_kind
 
 unfoldable pub step_at : Read (List Change)
 step_at bytes = do

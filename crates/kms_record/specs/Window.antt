@@ -8,7 +8,7 @@ pub record Shown : Type 0 where
 
 -- after these bytes more, in a window of a size
 abbrev pub shown_in : (size : ℕ) → Shown → List ℕ → Shown
-shown_in size s piece = record { unseen = s.unseen - length piece; bytes = take size (s.bytes ++ drop s.unseen piece) }
+shown_in size s piece = record { unseen = s.unseen - length piece; bytes = s.bytes ++ take (size - length s.bytes) (drop s.unseen piece) }
 
 unfoldable pub shown : Shown → List ℕ → Shown
 shown s piece = shown_in 1024 s piece

@@ -6,18 +6,41 @@ ghost use Rattle.kms_record.specs.Reading.{Gives, many};
 ghost use Rattle.kms_record.specs.GrammarReading.{change_at, step_at, record_of, snapshot_of};
 
 use crate::cursor::Cursor;
+use crate::fields;
 use crate::read_error::ReadError;
-use crate::secret_put::read_secret_put;
+use crate::acl::{read_acl_put};
+use crate::consumer::{read_consumer_added, read_consumer_dropped};
+use crate::container::{read_container_put};
+use crate::key::{read_wrapped_key, read_key_dropped};
+use crate::metadata::{read_metadata_put};
+use crate::order::{read_order_put};
+use crate::payload::{read_token_replaced, read_payload_put};
+use crate::quota::{read_quota_put};
+use crate::secret_put::{read_secret_put};
 use crate::{Change, Changes, Step, Steps};
 use kms_world::NoMemory;
 use std::alloc::Global;
 
-#[tactic(auto, unfolding(crate::specs::GrammarReading::change_at))]
+#[tactic(auto, unfolding(crate::specs::Reading::alternatives_at))]
 fn read_change(alloc: Global, cursor: &mut Cursor<'_>) -> Result<Change, ReadError>
     ensures { Gives (λ x. (x, cursor.new)) result (change_at cursor.old) }
 {
     match cursor.byte()? {
+        1 => Ok(Change::KeyAdded(read_wrapped_key(cursor)?)),
+        2 => Ok(Change::KeyRewrapped(read_wrapped_key(cursor)?)),
+        3 => Ok(Change::TokenReplaced(read_token_replaced(alloc, cursor)?)),
+        4 => Ok(Change::KeyDropped(read_key_dropped(cursor)?)),
         5 => Ok(Change::SecretPut(read_secret_put(alloc, cursor)?)),
+        6 => Ok(Change::PayloadPut(read_payload_put(alloc, cursor)?)),
+        7 => Ok(Change::MetadataPut(read_metadata_put(alloc, cursor)?)),
+        8 => Ok(Change::ContainerPut(read_container_put(alloc, cursor)?)),
+        9 => Ok(Change::ConsumerAdded(read_consumer_added(alloc, cursor)?)),
+        10 => Ok(Change::ConsumerDropped(read_consumer_dropped(alloc, cursor)?)),
+        11 => Ok(Change::AclPut(read_acl_put(alloc, cursor)?)),
+        12 => Ok(Change::AclDropped(fields::id(cursor)?)),
+        13 => Ok(Change::OrderPut(read_order_put(alloc, cursor)?)),
+        14 => Ok(Change::QuotaPut(read_quota_put(cursor)?)),
+        15 => Ok(Change::Deleted(fields::id(cursor)?)),
         _ => Err(ReadError::Malformed),
     }
 }
