@@ -4,6 +4,9 @@ use Rattle.std.specs.Str.{bytes_eq}
 use Rattle.kms_world.specs.Names.{IsWithoutRepeats}
 use Rattle.kms_world.specs.Times.{end_of_times}
 use Rattle.kms_record.specs.declared.acl.AclPut.{AclPut}
+use Rattle.std.specs.Prelude.{Contains}
+use Rattle.std.specs.List.{list_all}
+use Rattle.kms_record.proofs.PairwiseLaws.{passes_at}
 use Rattle.std.proofs.lemmas.Bool.Decides.{Decides-not}
 use Rattle.std.proofs.lemmas.Slice.Eq.{bytes_eq-Decides}
 use Rattle.kms_record.specs.Fields.{u64_bytes, text_bytes, mark_bytes, list_bytes}
@@ -19,6 +22,9 @@ apart a b = (Decides-not (bytes_eq a b) (bytes_eq-Decides a b)).0
 
 not_same : (a b : List ℕ) → (a ≡ b → ⊥) → not (bytes_eq a b) ≡ true
 not_same a b = (Decides-not (bytes_eq a b) (bytes_eq-Decides a b)).1
+
+pub not_among : (users : List (List ℕ)) (name : List ℕ) → list_all (λ u. not (bytes_eq u name)) users ≡ true → Contains users name → ⊥
+not_among users name h has = apart _ _ (passes_at (λ u. not (bytes_eq u name)) users has.0 name h has.1) has.2
 
 pub once_from_test : (users : List (List ℕ)) → are_apart users ≡ true → IsWithoutRepeats users
 once_from_test users h = record { apart = λ i j d lt within. apart _ _ (pairwise_at (λ (a b : List ℕ). not (bytes_eq a b)) users i j d h lt within) }

@@ -1,5 +1,5 @@
 -- Lists of which each value passes a test with each one behind it.
-use Rattle.std.proofs.Common.{◌≡◌, ℕ, zero, suc, ◌<◌, ◌≤◌, Bool, true, false, ◌&&◌, cond, List, [], ◌∷◌, ◌++◌, length, get_or, Option, Some, None, refl, sym, ap, ◌∙◌, append_assoc, arith, inl, inr, ◌⊎◌}
+use Rattle.std.proofs.Common.{◌≡◌, ℕ, zero, suc, ◌+◌, ◌-◌, ◌<◌, ◌≤◌, Bool, true, false, ◌&&◌, cond, List, [], ◌∷◌, ◌++◌, length, get_or, Option, Some, None, refl, sym, ap, ◌∙◌, append_assoc, arith, inl, inr, ◌⊎◌}
 use Rattle.std.specs.List.{list_all, AllByRecursion}
 use Rattle.std.proofs.lemmas.List.Folds.{list_all-append}
 use Rattle.std.proofs.lemmas.List.{append-nil}
@@ -29,7 +29,7 @@ all_at {A} P (x ∷ xs) (suc i) d each lt = all_at P xs i d each.1 (omega (arith
 
 -- ---- by places
 
-passes_at : {A : Type 0} (test : A → Bool) (xs : List A) (i : ℕ) (d : A) → list_all test xs ≡ true → i < length xs → test (get_or xs i d) ≡ true
+pub passes_at : {A : Type 0} (test : A → Bool) (xs : List A) (i : ℕ) (d : A) → list_all test xs ≡ true → i < length xs → test (get_or xs i d) ≡ true
 passes_at {A} test [] i d h lt = absurd (omega (arith, lt))
 passes_at {A} test (x ∷ xs) zero d h lt = (both_true (test x) (list_all test xs) h).0
 passes_at {A} test (x ∷ xs) (suc i) d h lt = passes_at test xs i d (both_true (test x) (list_all test xs) h).1 (omega (arith, lt))
@@ -94,3 +94,57 @@ tested {A} test front read = read >>= λ x. cond (pairwise test (front ++ x.0)) 
 pub tested_begins : {A : Type 0} (test : A → A → Bool) (read : Option (List A × List ℕ)) → tested test [] read ≡ (read >>= λ x. cond (pairwise test x.0) (Some x) None)
 tested_begins {A} test (Some x) = refl
 tested_begins {A} test None = refl
+
+tested_regroup : {A : Type 0} (test : A → A → Bool) (front : List A) (x : A) (read : Option (List A × List ℕ)) → tested test front (read >>= λ y. Some (x ∷ y.0, y.1)) ≡ tested test (front ++ x ∷ []) read
+tested_regroup {A} test front x (Some y) =
+    let e : front ++ (x ∷ y.0) ≡ (front ++ x ∷ []) ++ y.0 = simp append_assoc in
+    ap (λ (xs : List A). cond (pairwise test xs) (Some (xs, y.1)) None) e
+tested_regroup {A} test front x None = refl
+
+tested_next : {A : Type 0} (test : A → A → Bool) (read : Read A) (front : List A) (count i : ℕ) (bytes : List ℕ) (x : A) (after : List ℕ) → i < count → read bytes ≡ Some (x, after)
+    → tested test front (many read (count - i) bytes) ≡ tested test (front ++ x ∷ []) (many read (count - (i + 1)) after)
+unfolding many
+tested_next {A} test read front count i bytes x after lt h =
+    let k : count - i ≡ suc (count - (i + 1)) = omega arith in
+    rw (k, h) (tested_regroup test front x (many read (count - (i + 1)) after))
+
+-- the values read so far pass, and with those that are still read they are all
+pub record IsTested {A : Type 0} (test : A → A → Bool) (read : Read A) (front : List A) (left : ℕ) (bytes : List ℕ) (total : Option (List A × List ℕ)) : Type 0 where
+  pub passes : pairwise test front ≡ true
+  pub so_far : tested test front (many read left bytes) ≡ total
+
+pub tested_goes_on : {A : Type 0} (test : A → A → Bool) (read : Read A) (front : List A) (count i : ℕ) (bytes : List ℕ) (x : A) (after : List ℕ) (total : Option (List A × List ℕ)) → i < count → read bytes ≡ Some (x, after)
+    → list_all (λ y. test y x) front ≡ true → IsTested test read front (count - i) bytes total → IsTested test read (front ++ x ∷ []) (count - (i + 1)) after total
+tested_goes_on {A} test read front count i bytes x after total lt h all t = record {
+  passes = pairwise_push test front x t.passes all;
+  so_far = sym (tested_next test read front count i bytes x after lt h) ∙ t.so_far;
+}
+
+tested_none : {A : Type 0} (test : A → A → Bool) (front : List A) (x : A) (read : Option (List A × List ℕ)) → list_all (λ y. test y x) front ≡ false → tested test (front ++ x ∷ []) read ≡ None
+tested_none {A} test front x None fails = refl
+tested_none {A} test front x (Some y) fails =
+    let e : front ++ (x ∷ y.0) ≡ (front ++ x ∷ []) ++ y.0 = simp append_assoc in
+    let f : pairwise test ((front ++ x ∷ []) ++ y.0) ≡ false = ap (pairwise test) (sym e) ∙ pairwise_fails test front x y.0 fails in
+    rw f refl
+
+pub tested_refuses : {A : Type 0} (test : A → A → Bool) (read : Read A) (front : List A) (count i : ℕ) (bytes : List ℕ) (x : A) (after : List ℕ) (total : Option (List A × List ℕ)) → i < count → read bytes ≡ Some (x, after)
+    → list_all (λ y. test y x) front ≡ false → IsTested test read front (count - i) bytes total → total ≡ None
+tested_refuses {A} test read front count i bytes x after total lt h fails t =
+    sym t.so_far ∙ tested_next test read front count i bytes x after lt h ∙ tested_none test front x (many read (count - (i + 1)) after) fails
+
+tested_off : {A : Type 0} (test : A → A → Bool) (read : Read A) (front : List A) (count i : ℕ) (bytes : List ℕ) → i < count → read bytes ≡ None → tested test front (many read (count - i) bytes) ≡ None
+unfolding many
+tested_off {A} test read front count i bytes lt h = let k : count - i ≡ suc (count - (i + 1)) = omega arith in rw (k, h) refl
+
+pub tested_ends : {A : Type 0} (test : A → A → Bool) (read : Read A) (e : ReadError) (front : List A) (count i : ℕ) (bytes : List ℕ) (total : Option (List A × List ℕ)) → i < count → Fails e (read bytes)
+    → IsTested test read front (count - i) bytes total → Fails e total
+tested_ends {A} test read errors.NoMemory front count i bytes total lt h t = tt
+tested_ends {A} test read errors.Malformed front count i bytes total lt h t = sym t.so_far ∙ tested_off test read front count i bytes lt h
+
+pub tested_is_done : {A : Type 0} (test : A → A → Bool) (read : Read A) (front : List A) (count i : ℕ) (bytes : List ℕ) (total : Option (List A × List ℕ)) → count ≤ i → IsTested test read front (count - i) bytes total → total ≡ Some (front, bytes)
+unfolding many
+tested_is_done {A} test read front count i bytes total le t =
+    let k : count - i ≡ 0 = omega arith in
+    let same : front ++ [] ≡ front = append-nil front in
+    let one : tested test front (many read (count - i) bytes) ≡ Some (front, bytes) = rw (k, same, t.passes) refl in
+    sym t.so_far ∙ one

@@ -21,4 +21,5 @@ pub mod QuotaReading
 pub mod Reading
 pub mod SecretPut
 pub mod SecretPutReading
+pub mod Size
 pub mod Window

@@ -74,16 +74,17 @@ impl AclPut {
     }
 }
 
+fn is_other(user: &Name, name: &Name) -> bool
+    ensures { result ≡ not (bytes_eq user.now name.now) }
+{
+    user.as_bytes() != name.as_bytes()
+}
+
 // None of the names is this one.
 fn are_others(users: &[Name], name: &Name) -> bool
     ensures { result ≡ list_all (λ u. not (bytes_eq u name.now)) users.now }
 {
-    for user in users {
-        if user.as_bytes() == name.as_bytes() {
-            return false;
-        }
-    }
-    true
+    users.iter().all(|user| is_other(user, name))
 }
 
 fn read_apart(
@@ -112,16 +113,22 @@ fn read_users(alloc: Global, cursor: &mut Cursor<'_>) -> Result<Names, ReadError
     read_apart(alloc, cursor, count)
 }
 
-/// There are at most 100 names.
-pub(crate) fn are_users_in_range(users: &[Name]) -> bool
-    ensures { IsTrue result ↔ AreUsersInRange users.now }
+fn is_each_user_in_range(users: &[Name]) -> bool
+    ensures { IsTrue result ↔ AllByRecursion IsUserInRange users.now }
 {
     for user in users {
         if !range::is_short_name(user) {
             return false;
         }
     }
-    users.len() <= 100
+    true
+}
+
+/// There are at most 100 names.
+pub(crate) fn are_users_in_range(users: &[Name]) -> bool
+    ensures { IsTrue result ↔ AreUsersInRange users.now }
+{
+    users.len() <= 100 && is_each_user_in_range(users)
 }
 
 fn write_each_user(out: &mut Window, users: &[Name])

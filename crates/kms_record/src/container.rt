@@ -126,16 +126,22 @@ fn is_member_in_range(member: &Member) -> bool
     range::is_short(&member.name) && range::is_id(member.secret)
 }
 
-/// There are at most 100 members, and their names and ids are in their ranges.
-pub(crate) fn are_members_in_range(members: &[Member]) -> bool
-    ensures { IsTrue result ↔ AreMembersInRange members.now }
+fn is_each_member_in_range(members: &[Member]) -> bool
+    ensures { IsTrue result ↔ AllByRecursion IsMemberInRange members.now }
 {
     for member in members {
         if !is_member_in_range(member) {
             return false;
         }
     }
-    members.len() <= 100
+    true
+}
+
+/// There are at most 100 members, and their names and ids are in their ranges.
+pub(crate) fn are_members_in_range(members: &[Member]) -> bool
+    ensures { IsTrue result ↔ AreMembersInRange members.now }
+{
+    members.len() <= 100 && is_each_member_in_range(members)
 }
 
 #[tactic(auto, using(crate::proofs::WindowLaws::shown_twice), unfolding(crate::specs::Container::member_bytes))]

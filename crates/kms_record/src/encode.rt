@@ -11,7 +11,8 @@ use kms_world::{Bytes, NoMemory};
 // How many bytes the change is spelled with.
 fn change_len(change: &Change) -> usize
     requires { IsChangeInRange change.now }
-    ensures { result ≡ length (change_bytes change.now) }
+    ensures len { result ≡ length (change_bytes change.now) }
+    ensures admitted { IsChange change.now }
 {
     let mut window = Window::after(usize::MAX);
     change.write(&mut window);

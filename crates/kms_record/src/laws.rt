@@ -6,6 +6,7 @@ ghost use Rattle.kms_record.specs.declared.change.Change.{Change};
 ghost use Rattle.kms_record.specs.declared.secret_put.SecretPut.{SecretPut};
 ghost use Rattle.kms_record.specs.SecretPut.{put_of};
 ghost use Rattle.kms_record.specs.Kept.{Kept, HasGivenIds, id_of_count, with_secret, after_change, after_step, after_record};
+ghost use Rattle.kms_record.specs.Size.{most_bytes};
 ghost use Rattle.kms_record.specs.Grammar.{IsStep, IsStepInRange, IsRecord, IsSnapshot, step_bytes, record_bytes};
 
 /// No spelling of a step begins another's: where two steps are spelled at the front of the same bytes, they are one.
@@ -23,9 +24,9 @@ pub fn snapshot_has_one_reading()
     ensures { (bytes : List ℕ) (a b : List Change) → IsSnapshot bytes a → IsSnapshot bytes b → a ≡ b }
 {}
 
-/// A step of n changes is spelled with at most 2 + 944 n bytes.
+/// A step is spelled with two bytes, and at most so many for each change as its kind has.
 pub fn step_is_short()
-    ensures { (step : List Change) → IsStepInRange step → length (step_bytes step) ≤ 2 + 944 * length step }
+    ensures { (step : List Change) → IsStepInRange step → length (step_bytes step) ≤ 2 + sum_by most_bytes step }
 {}
 
 /// How many bytes a record has.

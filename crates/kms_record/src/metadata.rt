@@ -76,16 +76,17 @@ fn read_pair(alloc: Global, cursor: &mut Cursor<'_>) -> Result<(Text, Text), Rea
     Ok((key, value))
 }
 
+fn comes_before(pair: &(Text, Text), key: &Text) -> bool
+    ensures { result ≡ is_below pair.now.0 key.now }
+{
+    pair.0.as_str() < key.as_str()
+}
+
 // Each key comes before this one.
 fn are_below(pairs: &[(Text, Text)], key: &Text) -> bool
     ensures { result ≡ list_all (λ p. is_below p.0 key.now) pairs.now }
 {
-    for pair in pairs {
-        if !(pair.0.as_str() < key.as_str()) {
-            return false;
-        }
-    }
-    true
+    pairs.iter().all(|pair| comes_before(pair, key))
 }
 
 fn read_ascending(
@@ -120,16 +121,22 @@ fn is_pair_in_range(pair: &(Text, Text)) -> bool
     range::is_filled(&pair.0) && range::is_short_text(&pair.1)
 }
 
-/// There are at most 100 pairs, keys of 1 to 255 bytes and values of at most 255.
-pub(crate) fn are_pairs_in_range(pairs: &[(Text, Text)]) -> bool
-    ensures { IsTrue result ↔ ArePairsInRange pairs.now }
+fn is_each_pair_in_range(pairs: &[(Text, Text)]) -> bool
+    ensures { IsTrue result ↔ AllByRecursion IsPairInRange pairs.now }
 {
     for pair in pairs {
         if !is_pair_in_range(pair) {
             return false;
         }
     }
-    pairs.len() <= 100
+    true
+}
+
+/// There are at most 100 pairs, keys of 1 to 255 bytes and values of at most 255.
+pub(crate) fn are_pairs_in_range(pairs: &[(Text, Text)]) -> bool
+    ensures { IsTrue result ↔ ArePairsInRange pairs.now }
+{
+    pairs.len() <= 100 && is_each_pair_in_range(pairs)
 }
 
 #[tactic(auto, using(crate::proofs::WindowLaws::shown_twice), unfolding(crate::specs::Metadata::pair_bytes))]
