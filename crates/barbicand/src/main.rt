@@ -5,7 +5,7 @@
 use kms_host::PipeHost;
 use kms_serve::{Status, run};
 use std::env;
-use std::io::{ErrorKind, Write};
+use std::io::ErrorKind;
 use std::process::ExitCode;
 
 // The words behind the program's name. One that isn't UTF-8 is not understood.
@@ -25,12 +25,13 @@ fn words(rt: HostRuntime) -> Result<Vec<String>, Status> {
 }
 
 fn main(rt: HostRuntime) -> ExitCode {
+    let mut host = PipeHost::new(rt);
     let status = match words(rt) {
-        Ok(words) => run(rt.alloc(), &words, &mut PipeHost::new(rt)),
+        Ok(words) => run(rt.alloc(), &words, &mut host),
         Err(status) => status,
     };
     let mut room = [0u8; 192];
     let length = status.line(&mut room);
-    let _ = rt.stderr().write_all(&room[..length]);
+    host.tell(&room[..length]);
     ExitCode::from(status.code())
 }

@@ -1,3 +1,4 @@
+pub mod DamageLaws
 pub mod FoundLaws
 pub mod LoadLaws
 pub mod SettleLaws

@@ -59,7 +59,7 @@ kept_counts s kept p = let all = counts_of s.records (kept_first s.tag s.ids) ke
 pub fresh_counted : (tag : ℕ) → HasSteps (fresh tag) 0
 fresh_counted tag = (0, refl, refl)
 
-applies_or_not : (bytes : List ℕ) (kept after : Kept) → Applies bytes kept after → IsBroken bytes kept → ⊥
+pub applies_or_not : (bytes : List ℕ) (kept after : Kept) → Applies bytes kept after → IsBroken bytes kept → ⊥
 applies_or_not bytes kept after p broken = let e : Some after ≡ None = sym p.leads ∙ broken p.steps p.read in cc
 
 unbroken : (items : List (ℕ × List ℕ)) (stop place : ℕ) (is_whole : Bool) (kept after : Kept) → is_whole ≡ true → LeadTo items kept after → BreakAt items stop is_whole kept place → ⊥

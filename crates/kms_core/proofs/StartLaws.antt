@@ -2,12 +2,12 @@
 use Rattle.std.proofs.Common.{◌≡◌, inl, inr, ℕ, Bool, false, List, [], ◌∷◌, length, get_or, None, refl, sym, ap, subst, ◌∙◌, arith}
 use Rattle.std.specs.Prelude.{Ok, Err}
 use Rattle.kms_host.specs.History.{History}
-use Rattle.kms_host.specs.Disk.{Disk, MayLeave}
+use Rattle.kms_host.specs.Disk.{Disk, MayLeave, at_rest}
 use Rattle.kms_host.specs.Moment.{Throughout}
 use Rattle.kms_host.proofs.Moments.{joined, throughout_weaker, at_last}
 use Rattle.kms_record.specs.Kept.{Kept}
 use Rattle.kms_journal.specs.Answers.{chain_of, Gathers}
-use Rattle.kms_journal.specs.Device.{IsUntouched}
+use Rattle.kms_journal.specs.Device.{IsQuiet, IsUntouched}
 use Rattle.kms_journal.specs.Position.{Position, IsPlaced}
 use Rattle.kms_journal.specs.Recovery.{KeepsStanding, Opens}
 use Rattle.kms_journal.specs.Standing.{Standing, standing_of}
@@ -69,6 +69,9 @@ placed_after p s mid now t placed =
       clear = ap (λ (l : List ℕ). get_or l s.stop 0) same ∙ placed.clear;
     }
 
+rests_after : (f : ℕ) (mid now : History) → IsUntouched mid now → IsQuiet f mid → IsQuiet f now
+rests_after f mid now u rests = u.disk f ∙ rests ∙ ap (λ (d : Disk). at_rest d.reads) (sym (u.disk f))
+
 still_keeps : (was mid : History) → KeepsStanding was mid → (h : History) → IsUntouched mid h → KeepsStanding was h
 still_keeps was mid k h u = record {
   images = λ quiet image is. k.images quiet image (record {
@@ -125,5 +128,6 @@ module _ (p : Position) (was mid now : History) (o : OpensJournal (Ok p) was mid
             record { standing = s; current = o.answer.1; kept = keeps; counted = steps.1 },
             record { idle = refl; opened = record { standing = s; placed = now_placed; kept = keeps; counted = steps.1; ahead = refl } },
             λ quiet. quiet_after mid now (at_last (IsUntouched mid) mid now g.throughout) (o.answer.3 quiet),
+            subst (λ (f : ℕ). IsQuiet f now) (sym (ap (λ (x : Position). x.file) o.answer.2.here)) (rests_after s.file mid now (at_last (IsUntouched mid) mid now g.throughout) o.answer.4),
           );
         })

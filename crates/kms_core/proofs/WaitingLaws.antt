@@ -1,5 +1,5 @@
 -- Waiting steps, spelled, and one more.
-use Rattle.std.proofs.Common.{◌≡◌, ℕ, ◌+◌, ◌*◌, ◌^◌, ◌<◌, ◌≤◌, List, [], ◌∷◌, ◌++◌, length, Option, Some, None, refl, sym, ap, ◌∙◌, arith, length-append}
+use Rattle.std.proofs.Common.{◌≡◌, ℕ, ◌+◌, ◌*◌, ◌^◌, ◌<◌, ◌≤◌, ◌==◌, true, List, [], ◌∷◌, ◌++◌, length, Option, Some, None, refl, sym, ap, ◌∙◌, arith, length-append}
 use Rattle.std.specs.Int.{w32, to_be_bytes}
 use Rattle.std.specs.List.{flat_map, AllByRecursion}
 use Rattle.std.proofs.lemmas.Grind.{flat_map-append}
@@ -14,7 +14,10 @@ use Rattle.kms_record.specs.declared.secret_put.SecretPut as put_type
 use Rattle.kms_record.specs.SecretPut.{put_of}
 use Rattle.kms_record.proofs.KeptLaws.{record-append, new_secret_is_kept}
 use Rattle.kms_world.specs.declared.secret.SecretRow.{SecretRow}
-use Rattle.kms_model.specs.AskSecret.{with_secret}
+use Rattle.kms_world.specs.Effect as effects
+use Rattle.kms_world.specs.Effect.{after_effect, ids_with}
+use Rattle.kms_world.specs.declared.id.Id.{Id}
+use Rattle.kms_model.specs.Secrets.{next_id}
 use Rattle.std.specs.Prelude.{Result, Ok, Err, IfOk, OnOk}
 use Rattle.kms_core.specs.Spelling.{IsNew, LeadsBehind}
 use Rattle.kms_record.proofs.SizeLaws.{step_is_short_lem}
@@ -76,18 +79,31 @@ record_is s steps spells =
 pub framed_record : (s : Spelled) (steps : List (List Change)) → Spells s steps → frame (u32_bytes s.count ++ s.steps) ≡ frame (record_bytes steps)
 framed_record s steps spells = ap frame (record_is s steps spells)
 
+eqb_same : (n : ℕ) → (n == n) ≡ true
+eqb_same n = grind arith
+
+-- the next id is given by it
+pub next_is_given : (s : State) (id : Id) → id ≡ next_id s → ids_with id s ≡ s.ids + 1
+next_is_given s id is = rw (is, eqb_same (next_id s).0) refl
+
+pub one_secret_more : (s : State) (row : SecretRow) → row.id ≡ next_id s
+    → (let more : State = record s { ids = s.ids + 1; secrets = s.secrets ++ row ∷ [] } in after_effect (effects.SecretPut row) s ≡ more)
+one_secret_more s row is =
+    ap (λ (n : ℕ). let more : State = record s { ids = n; secrets = s.secrets ++ row ∷ [] } in more) (next_is_given s row.id is)
+
 -- a new secret's step leads on
 leads_behind : (before : Option Spelled) (count : ℕ) (row : SecretRow) (put : put_type.SecretPut) (step : List Change) (s : Spelled) → put ≡ put_of count row → step ≡ SecretPut put ∷ []
     → s.count ≡ count_of before + 1 → s.count ≤ 1152 → s.steps ≡ steps_of before ++ step_bytes step → IsStep step → LeadsBehind before count row s
 leads_behind before count row put step s put_is step_is one most spelled is = (
   one,
-  λ settled state ids new ahead. ahead_by_one before s step settled state (with_secret state row) one most spelled is (leads state ids new) ahead,
+  λ settled state ids new ahead. ahead_by_one before s step settled state (after_effect (effects.SecretPut row) state) one most spelled is (leads state ids new) ahead,
 )
   where
-    leads : (state : State) → state.ids ≡ count → IsNew state row → after_step step (kept_as state) ≡ Some (kept_as (with_secret state row))
+    leads : (state : State) → state.ids ≡ count → IsNew state row → after_step step (kept_as state) ≡ Some (kept_as (after_effect (effects.SecretPut row) state))
     leads state ids new =
         ap (λ (st : List Change). after_step st (kept_as state)) (step_is ∙ ap (λ (p : put_type.SecretPut). let l : List Change = SecretPut p ∷ [] in l) (put_is ∙ ap (λ (n : ℕ). put_of n row) (sym ids)))
         ∙ (rw (new_secret_is_kept (kept_as state) row new.left new.id new.payload new.metadata) refl)
+        ∙ sym (ap (λ (x : State). Some (kept_as x)) (one_secret_more state row new.id))
 
 pub spelled_behind : {E : Type 0} (r : Result Spelled E) (before : Option Spelled) (count : ℕ) (row : SecretRow) (put : put_type.SecretPut) (step : List Change) → put ≡ put_of count row → step ≡ SecretPut put ∷ []
     → IfOk r (λ s. s.count ≡ count_of before + 1) → IfOk r (λ s. s.count ≤ 1152) → IfOk r (λ s. s.steps ≡ steps_of before ++ step_bytes step) → OnOk r (IsStep step) → IfOk r (λ s. LeadsBehind before count row s)

@@ -1,5 +1,5 @@
 -- What the files of a store stand for: a state of the key manager.
-use Rattle.std.specs.Prelude.{◌≡◌, ◌⊎◌, ℕ, ◌+◌, ◌<◌, ◌≤◌, ◌^◌, List, [], ◌∷◌, length, Bool, true, false, Some, None}
+use Rattle.std.specs.Prelude.{◌≡◌, ◌⊎◌, ℕ, ◌+◌, ◌<◌, ◌≤◌, ◌^◌, List, [], ◌∷◌, length, slice_index, Bool, true, false, Some, None}
 use Rattle.kms_world.specs.State.{State, empty_state}
 use Rattle.kms_record.specs.declared.change.Change.{Change}
 use Rattle.kms_record.specs.Grammar.{IsRecord, IsSnapshot}
@@ -64,8 +64,16 @@ BreakAt (item ∷ items) stop is_whole kept place =
     (IsBroken item.1 kept × (place ≡ item.0))
     ⊎ ((next : Kept) × Applies item.1 kept next × BreakAt items stop is_whole next place)
 
+-- each of these is a byte
+abbrev pub IsBytes : List ℕ → Type 0
+IsBytes bytes = (i : ℕ) → slice_index bytes i < 256
+
 -- the first place, in a store's current file, at which what it keeps is damaged: 0 for the header and the snapshot
 abbrev pub IsDamagedAt : Standing → ℕ → Type 0
 IsDamagedAt s place =
     (¬ IsEmptySnapshot s.tag s.ids s.snapshot × (place ≡ 0))
     ⊎ (IsEmptySnapshot s.tag s.ids s.snapshot × BreakAt s.records s.stop s.is_whole (kept_first s.tag s.ids) place)
+
+-- What a store's standing keeps, or the first place at which it is damaged: it has one or the other.
+abbrev pub IsWholeOrDamaged : Standing → Type 0
+IsWholeOrDamaged s = ((kept : Kept) × KeptOf s kept) ⊎ ((place : ℕ) × IsDamagedAt s place)

@@ -1,8 +1,9 @@
 -- Steps, and what preparing one promises.
-use Rattle.std.specs.Prelude.{◌≡◌, ℕ, ◌<◌, ◌+◌, ◌^◌, Option, Some, None, Bool, IsTrue}
+use Rattle.std.specs.Prelude.{◌≡◌, ℕ, ◌<◌, ◌+◌, ◌^◌, Option, Some, None, Bool, false, IsTrue}
 use Rattle.kms_world.specs.State.{State}
 use Rattle.kms_world.specs.Times.{IsTimely}
-use Rattle.kms_model.specs.AskSecret.{with_secret}
+use Rattle.kms_world.specs.Effect.{SecretPut, after_effect}
+use Rattle.kms_model.specs.Secrets.{next_id}
 use Rattle.kms_host.specs.History.{History}
 use Rattle.kms_core.specs.Settling.{IsOpened}
 use Rattle.kms_core.specs.Waiting.{Keeping, IsAhead, count_of}
@@ -15,13 +16,14 @@ pub record Held : Type 0 where
   pub store : Keeping
 
 abbrev pub after_step : State → Step → State
-after_step s step = with_secret s step.secret
+after_step s step = after_effect (SecretPut step.secret) s
 
 -- the step leads from this state to the next one, and taking it over can't fail
 pub record LeadsTo (step : Step) (before after : State) (has_room : Bool) : Type 0 where
   pub leads : after_step before step ≡ after
   pub room : IsTrue has_room
   pub ids : before.ids < 2 ^ 62
+  pub id : step.secret.id ≡ next_id before
   pub times : IsTimely step.secret
 
 abbrev pub Prepares : Option Step → State → State → Bool → Type 0
@@ -36,6 +38,10 @@ IsSpelledBehind engine step = (step.waiting.count ≡ count_of engine.store.wait
 -- no step waits
 abbrev pub IsIdle : Held → Type 0
 IsIdle engine = engine.store.waiting ≡ None
+
+-- no call of the store has failed in one of the engine's calls
+abbrev pub IsWorking : Held → Type 0
+IsWorking engine = engine.store.journal.failed ≡ false
 
 -- The engine's store stands for its state after so many steps, and no step waits.
 pub record IsSettled (engine : Held) (steps : ℕ) (h : History) : Type 0 where

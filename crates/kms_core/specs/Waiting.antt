@@ -1,11 +1,11 @@
 -- Accepted steps that wait to be settled.
-use Rattle.std.specs.Prelude.{◌≡◌, ℕ, List, [], length, Option, Some, None}
+use Rattle.std.specs.Prelude.{◌≡◌, ℕ, List, [], length, Option, Some, None, true}
 use Rattle.std.specs.List.{flat_map}
 use Rattle.kms_world.specs.State.{State}
 use Rattle.kms_record.specs.declared.change.Change.{Change}
 use Rattle.kms_record.specs.Grammar.{AreSteps, step_bytes}
 use Rattle.kms_record.specs.Kept.{after_record}
-use Rattle.kms_journal.specs.Position.{Position}
+use Rattle.kms_journal.specs.Position.{Position, failed_if}
 use Rattle.kms_core.specs.Stands.{kept_as}
 
 -- so many steps, and their spellings, one behind the other
@@ -39,3 +39,7 @@ pub record Keeping : Type 0 where
 
 abbrev pub with_waiting : Option Spelled → Keeping → Keeping
 with_waiting waiting k = record { journal = k.journal; waiting = waiting }
+
+-- with a journal that has failed
+abbrev pub with_failed : Keeping → Keeping
+with_failed k = record { journal = failed_if true k.journal; waiting = k.waiting }

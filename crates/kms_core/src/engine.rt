@@ -3,21 +3,23 @@ ghost use Rattle.std.specs.Prelude.{◌≡◌, ℕ, ◌<◌, ◌^◌, IfOk, Some
 ghost use Rattle.kms_world.specs.State.{State};
 ghost use Rattle.kms_world.specs.Times.{HasTimes, IsTimely};
 ghost use Rattle.kms_model.specs.Ask.{answer_to, state_after, stores};
+ghost use Rattle.kms_model.specs.Secrets.{next_id};
 ghost use Rattle.kms_host.specs.Faults.{HasCause};
 ghost use Rattle.kms_host.specs.History.{Tells, WhereTold, Stops};
 ghost use Rattle.kms_host.specs.declared.call.Count.TheVariants as counts;
 ghost use Rattle.kms_journal.specs.Fault.{Fails};
 ghost use Rattle.kms_journal.specs.Position.{IsPlaced};
 ghost use Rattle.kms_journal.specs.Standing.{Standing};
-ghost use Rattle.kms_core.specs.Steps.{after_step, Prepares, IsIdle, IsSpelledBehind};
+ghost use Rattle.kms_core.specs.Steps.{after_step, Prepares, IsIdle, IsWorking, IsSpelledBehind};
 ghost use Rattle.kms_core.specs.Settling.{IsOpened, Settles};
-ghost use Rattle.kms_core.specs.Waiting.{count_of, with_waiting};
+ghost use Rattle.kms_core.specs.Waiting.{count_of, with_waiting, with_failed};
 
 use crate::opened::Opened;
+use crate::step::refused;
 use crate::{AskFault, Asked, Step};
 use kms_host::Host;
 use kms_journal::StoreFault;
-use kms_world::{Answer, Caller, Op, SecretRow};
+use kms_world::{Caller, Op, Refusal, SecretRow};
 use std::alloc::Global;
 use std::marker::Model;
 
@@ -47,8 +49,8 @@ impl Model for Engine {
 
 impl Engine {
     /// The plain key manager's answer to an operation of a caller at a time in seconds since 1970, and the step that
-    /// it needs: one exactly where the operation is accepted and writes. No row changes. After a fault nothing has
-    /// changed. Fewer than 1,152 accepted steps may wait to be settled.
+    /// it needs: one exactly where the operation is accepted and writes. An operation that isn't served is refused as a path
+    /// that isn't there. No row changes. After a fault nothing has changed. Fewer than 1,152 accepted steps may wait to be settled.
     pub fn ask<H: Host>(
         &mut self,
         host: &mut H,
@@ -69,11 +71,9 @@ impl Engine {
     {
         match op {
             Op::PostSecret { body: Ok(body) } => self.post_secret(caller, body, moment),
-            Op::PostSecret { body: Err(refusal) } => Ok(Asked {
-                answer: Answer::Refused(refusal),
-                step: None,
-            }),
-            Op::GetSecret { id } => self.get_secret(caller, id, moment),
+            Op::PostSecret { body: Err(refusal) } => Ok(refused(refusal)),
+            Op::GetSecret { id, .. } => self.get_secret(caller, id, moment),
+            _ => Ok(refused(Refusal::NoRoute)),
         }
     }
 
@@ -81,6 +81,7 @@ impl Engine {
     pub fn accept(&mut self, step: Step)
         requires room { IsTrue self.old.room }
         requires ids { self.old.state.ids < 2 ^ 62 }
+        requires id { step.secret.id ≡ next_id self.old.state }
         requires times { IsTimely step.secret }
         ensures state { self.new.state ≡ after_step self.old.state step }
         ensures store { self.new.store ≡ with_waiting (Some step.waiting) self.old.store }
@@ -95,15 +96,17 @@ impl Engine {
 
     /// Writes the accepted steps that wait to the store, as one record, with at most two syncs. It takes no memory. With
     /// no step that waits it makes no call on the host. From an Ok on they are on the disk. After a fault the store has
-    /// all of them or none: start another engine.
+    /// all of them or none, and the engine settles no more: start another.
     pub fn settle<H: Host>(&mut self, host: &mut H) -> Result<(), StoreFault>
+        requires working { IsWorking self.old }
         requires placed { IsTrue (is_some self.old.store.waiting) → WhereTold (H.history host.old) (λ h. (s : Standing) × IsPlaced self.old.store.journal h s) }
         ensures told { Tells (H.history host.old) (H.history host.new) (λ was now. (settled : State) (steps : ℕ)
             → IsOpened self.old.store was settled steps self.old.state
             → Settles self.new.store result settled steps self.old.state (count_of self.old.store.waiting) was now) }
         ensures same { self.new.state ≡ self.old.state }
         ensures ok { OnOk result (IsIdle self.new) }
-        ensures err { OnErr result (self.new ≡ self.old) }
+        ensures working { OnOk result (IsWorking self.new) }
+        ensures fails { OnErr result (self.new ≡ record self.old { store = with_failed self.old.store }) }
         ensures idle { IsIdle self.old → (result ≡ Ok tt) × (host.new ≡ host.old) }
         ensures cause { HasCause counts.Store (H.faults host.old) (H.faults host.new) result }
         ensures failed { Tells (H.history host.old) (H.history host.new) (Fails (is_err result)) }

@@ -1,11 +1,14 @@
 // Operations on secrets.
-ghost use Rattle.std.specs.Prelude.{◌≡◌, ◌<◌, IfOk, is_some, IfSome, None, option_copied, find};
-ghost use Rattle.kms_model.specs.AskSecret.{is_secret, is_live, is_short_name, is_stored, posted_answer, posted_state, secret_at, found_answer};
+ghost use Rattle.std.specs.Prelude.{◌≡◌, ◌<◌, IfOk, Ok, is_some, IfSome, None, option_copied, find};
+ghost use Rattle.kms_model.specs.Done.{answer_by, effects_by, has_some};
+ghost use Rattle.kms_model.specs.Secrets.{is_secret, is_live, is_short_name, posted, shown};
+ghost use Rattle.kms_world.specs.Effect.{after_effects};
 ghost use Rattle.kms_core.specs.Steps.{Prepares, IsSpelledBehind};
 ghost use Rattle.kms_core.specs.Waiting.{count_of};
 ghost use Rattle.kms_world.specs.Times.{HasTimes};
 
 use crate::spelling::spell;
+use crate::step::refused;
 use crate::{AskFault, Asked, Engine, Step};
 use kms_world::{
     Answer, Caller, Field, Id, Link, Pairs, Refusal, SecretBody, SecretKind, SecretRow, Text, id_of,
@@ -44,16 +47,6 @@ fn found<'a>(rows: &'a [SecretRow], caller: &Caller, id: Id, moment: u64) -> Opt
     rows.iter().find(|row| is_secret(caller, id, moment, row))
 }
 
-fn refused(refusal: Refusal) -> Asked
-    ensures answer { result.answer ≡ Answer.Refused refusal }
-    ensures step { result.step ≡ None }
-{
-    Asked {
-        answer: Answer::Refused(refusal),
-        step: None,
-    }
-}
-
 impl Engine {
     pub(crate) fn post_secret(
         &mut self,
@@ -63,9 +56,9 @@ impl Engine {
     ) -> Result<Asked, AskFault>
         requires time { moment < 253402300800 }
         requires few { count_of self.old.store.waiting < 1152 }
-        ensures answer { IfOk result (λ a. a.answer ≡ posted_answer self.old.state body) }
-        ensures step { IfOk result (λ a. Prepares a.step self.old.state (posted_state self.old.state caller.now body moment) self.new.room) }
-        ensures stores { IfOk result (λ a. is_some a.step ≡ is_stored self.old.state body) }
+        ensures answer { IfOk result (λ a. a.answer ≡ answer_by (posted self.old.state caller.now (Ok body) moment)) }
+        ensures step { IfOk result (λ a. Prepares a.step self.old.state (after_effects (effects_by (posted self.old.state caller.now (Ok body) moment)) self.old.state) self.new.room) }
+        ensures stores { IfOk result (λ a. is_some a.step ≡ has_some (effects_by (posted self.old.state caller.now (Ok body) moment))) }
         ensures times { IfOk result (λ a. HasTimes a.answer) }
         ensures spelled { IfOk result (λ a. IfSome a.step (IsSpelledBehind self.old)) }
         ensures same { self.new.state ≡ self.old.state }
@@ -114,7 +107,7 @@ impl Engine {
         id: Option<Id>,
         moment: u64,
     ) -> Result<Asked, AskFault>
-        ensures answer { IfOk result (λ a. a.answer ≡ found_answer (secret_at self.now.state caller.now id moment)) }
+        ensures answer { IfOk result (λ a. a.answer ≡ answer_by (shown self.now.state caller.now id moment)) }
         ensures times { IfOk result (λ a. HasTimes a.answer) }
         ensures step { IfOk result (λ a. a.step ≡ None) }
     {

@@ -5,7 +5,7 @@ ghost use Rattle.kms_host.specs.Store.{IsAttached};
 ghost use Rattle.kms_journal.specs.Device.{HasStoreCause};
 ghost use Rattle.kms_journal.specs.Fault.{Fails};
 ghost use Rattle.kms_core.specs.Starting.{Starts, OpensJournal, is_failed_start};
-ghost use Rattle.kms_core.specs.Steps.{IsIdle};
+ghost use Rattle.kms_core.specs.Steps.{IsIdle, IsWorking};
 ghost use Rattle.kms_core.specs.declared.start_fault.StartFault.TheVariants as faults;
 
 use crate::load::{load, refusal};
@@ -19,6 +19,7 @@ use std::alloc::Global;
 fn open<H: Host>(alloc: Global, host: &mut H) -> Result<Journal, StartFault>
     requires { WhereTold (H.history host.old) IsAttached }
     ensures told { Tells (H.history host.old) (H.history host.new) (OpensJournal result) }
+    ensures working { IfOk result (λ journal. journal.failed ≡ false) }
     ensures cause { HasStoreCause faults.StoreFault (H.faults host.old) (H.faults host.new) result }
     ensures failed { Tells (H.history host.old) (H.history host.new) (Fails (is_failed_start result)) }
     ensures stops { Stops (H.wanted host.old) (H.wanted host.new) (H.history host.old) (H.history host.new) }
@@ -56,6 +57,7 @@ impl Engine {
         requires { WhereTold (H.history host.old) IsAttached }
         ensures told { Tells (H.history host.old) (H.history host.new) (Starts result) }
         ensures idle { IfOk result IsIdle }
+        ensures working { IfOk result IsWorking }
         ensures cause { HasStoreCause faults.StoreFault (H.faults host.old) (H.faults host.new) result }
         ensures failed { Tells (H.history host.old) (H.history host.new) (Fails (is_failed_start result)) }
         ensures stops { Stops (H.wanted host.old) (H.wanted host.new) (H.history host.old) (H.history host.new) }

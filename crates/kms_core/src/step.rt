@@ -1,6 +1,8 @@
 // Prepared changes.
+ghost use Rattle.std.specs.Prelude.{◌≡◌, None};
+
 use crate::waiting::Waiting;
-use kms_world::{Answer, NoMemory, SecretRow};
+use kms_world::{Answer, NoMemory, Refusal, SecretRow};
 use std::alloc::{AllocError, AllocFailed};
 
 /// A change that was prepared with all the memory that it needs, and not made yet.
@@ -17,6 +19,17 @@ pub struct Step {
 pub struct Asked {
     pub answer: Answer,
     pub step: Option<Step>,
+}
+
+// A refusal, which changes nothing.
+pub(crate) fn refused(refusal: Refusal) -> Asked
+    ensures answer { result.answer ≡ Answer.Refused refusal }
+    ensures step { result.step ≡ None }
+{
+    Asked {
+        answer: Answer::Refused(refusal),
+        step: None,
+    }
 }
 
 /// Why an operation has no answer. Nothing has changed.

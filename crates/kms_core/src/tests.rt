@@ -109,7 +109,17 @@ fn caller() -> Option<Caller> {
 fn post(alloc: Global) -> Option<Op> {
     match Text::of(alloc, "a") {
         Ok(name) => Some(Op::PostSecret {
-            body: Ok(SecretBody { name: Some(name) }),
+            body: Ok(SecretBody {
+                name: Some(name),
+                algorithm: None,
+                bit_length: None,
+                mode: None,
+                secret_type: None,
+                expiration: None,
+                payload: None,
+                payload_content_type: None,
+                payload_content_encoding: None,
+            }),
         }),
         Err(_) => None,
     }
@@ -181,7 +191,14 @@ fn shown<H: Host>(alloc: Global, host: &mut H, id: Id) -> Option<SecretRow>
     let Ok(mut engine) = starts(alloc, host) else {
         return None;
     };
-    match answers(&mut engine, host, Op::GetSecret { id: Some(id) })? {
+    match answers(
+        &mut engine,
+        host,
+        Op::GetSecret {
+            id: Some(id),
+            accept: None,
+        },
+    )? {
         Answer::Secret(row) => Some(row),
         _ => None,
     }

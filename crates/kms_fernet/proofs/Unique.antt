@@ -14,7 +14,8 @@ use Rattle.kms_aes.proofs.Uniqueness.{encrypt-apart}
 use Rattle.kms_fernet.specs.Hmac.{hmac}
 use Rattle.kms_fernet.specs.Cbc.{cbc, padded, padding_len, EndsInPadding}
 use Rattle.kms_fernet.specs.Key.{signing_key, enciphering_key, IsBase64url, IsNoBase64url}
-use Rattle.kms_fernet.specs.Token.{signed_part, token_bytes, Opens, OpensToOne, OpensToNone, IsFramed, IsDeciphered, OpensBytes, IsBytesFault, IsFault, iv_of, ciphertext_len, ciphertext_of, signed_of, tag_of}
+use Rattle.kms_fernet.specs.Token.{signed_part, token_bytes, Opens, OpensToOne, OpensToNone, IsFramed, IsDeciphered, OpensBytes, IsBytesFault, IsFault, IsToken, moment_of, iv_of, ciphertext_len, ciphertext_of, signed_of, tag_of}
+use Rattle.kms_fernet.specs.Laws.{TokenHasParts}
 use Rattle.kms_fernet.specs.declared.open_fault.OpenFault.{OpenFault}
 use Rattle.kms_fernet.specs.declared.open_fault.OpenFault.TheVariants.{Base64, Short, Version, Length, Mac, Padding, NoMemory}
 use Rattle.kms_fernet.proofs.CbcLaws.{chain, chain-next, chain-none, cbc-chain}
@@ -173,16 +174,17 @@ cbc_bytes key iv text hk hi whole fits =
     (chain_bytes key iv text (length text / 16) hk hi (omega arith) fits))
 
 -- what stands in bytes that are put together as those of a token
-record HasParts (raw iv ciphertext signed tag : List ℕ) : Type 0 where
+record HasParts (moment : ℕ) (raw iv ciphertext signed tag : List ℕ) : Type 0 where
   len : length raw ≡ 57 + length ciphertext
   version : slice_index raw 0 ≡ 0x80
+  moment_is : moment_of raw ≡ to_be_bytes w64 moment
   iv_is : iv_of raw ≡ iv
   ciphertext_is : ciphertext_of raw ≡ ciphertext
   signed_is : signed_of raw ≡ signed
   tag_is : tag_of raw ≡ tag
 
 has_parts : (moment : ℕ) (iv ciphertext tag : List ℕ) → length iv ≡ 16 → length tag ≡ 32
-    → HasParts (signed_part moment iv ciphertext ++ tag) iv ciphertext (signed_part moment iv ciphertext) tag
+    → HasParts moment (signed_part moment iv ciphertext ++ tag) iv ciphertext (signed_part moment iv ciphertext) tag
 unfolding signed_part
 has_parts moment iv ciphertext tag hi ht =
     let clock = to_be_bytes w64 moment in
@@ -201,6 +203,7 @@ has_parts moment iv ciphertext tag hi ht =
     record {
       len = all;
       version = refl;
+      moment_is = ap (take 8) (whole clock iv ciphertext tag) ∙ take_at clock (iv ++ (ciphertext ++ tag)) 8 eight;
       iv_is = ap (take 16) head ∙ take_at iv (ciphertext ++ tag) 16 hi;
       ciphertext_is =
           ap (take (ciphertext_len raw)) (sym (drop-drop 16 9 raw) ∙ ap (drop 16) head ∙ drop_at iv (ciphertext ++ tag) 16 hi)
@@ -209,10 +212,13 @@ has_parts moment iv ciphertext tag hi ht =
       tag_is = drop_at signed tag (length raw - 32) (sym end);
     }
   where
+    whole : (clock iv ciphertext tag : List ℕ) → clock ++ iv ++ ciphertext ++ tag ≡ clock ++ (iv ++ (ciphertext ++ tag))
+    whole clock iv ciphertext tag = append_assoc (clock ++ iv) ciphertext tag ∙ append_assoc clock iv (ciphertext ++ tag)
+
     drop-append-le-9 : (clock iv ciphertext tag : List ℕ) → length clock ≡ 8
         → drop 8 (clock ++ iv ++ ciphertext ++ tag) ≡ iv ++ (ciphertext ++ tag)
     drop-append-le-9 clock iv ciphertext tag e =
-        ap (drop 8) (append_assoc (clock ++ iv) ciphertext tag ∙ append_assoc clock iv (ciphertext ++ tag))
+        ap (drop 8) (whole clock iv ciphertext tag)
         ∙ drop_at clock (iv ++ (ciphertext ++ tag)) 8 e
 
 -- the bytes of a token have its parts
@@ -264,6 +270,28 @@ sealed key text plain hk o =
         front = sym (padded_front plain);
       };
       padded_is = refl;
+    }
+
+-- the parts of a token's bytes are those that it was sealed with
+pub token_parts : (key plain iv text : List ℕ) (moment : ℕ) → IsCountedBytes 32 key → IsBytes plain → IsBlock iv
+    → IsToken key moment iv plain text → TokenHasParts text moment iv plain
+unfolding token_bytes
+token_parts key plain iv text moment hk hp hi token =
+    let ciphertext = cbc (enciphering_key key) iv (padded plain) in
+    let signed = signed_part moment iv ciphertext in
+    let tag = hmac (signing_key key) signed in
+    let all = length-padded plain in
+    let whole : length (padded plain) % 16 ≡ 0 = omega arith in
+    let enciphered = cbc_bytes (enciphering_key key) iv (padded plain) (half key hk) hi whole (padded_bytes plain hp) in
+    let tagged = hmac_bytes (signing_key key) signed in
+    let parts = has_parts moment iv ciphertext tag hi.len tagged.len in
+    let signed_fits : IsBytes signed = signed_bytes moment iv ciphertext hi.fits enciphered.fits in
+    record {
+      raw = signed ++ tag;
+      read = record { fits = append_bytes signed tag signed_fits tagged.fits; spelled = token };
+      moment_is = parts.moment_is;
+      iv_is = parts.iv_is;
+      len = parts.len ∙ ap (λ (n : ℕ). 57 + n) enciphered.len;
     }
 
 pub iv_block : (raw : List ℕ) → IsBytes raw → 73 ≤ length raw → IsBlock (iv_of raw)

@@ -1,8 +1,11 @@
 -- What holds of tokens.
-use Rattle.std.specs.Prelude.{◌≡◌, ℕ, ◌^◌, ◌<◌, ◌⊎◌, List}
+use Rattle.std.specs.Prelude.{◌≡◌, ℕ, ◌^◌, ◌<◌, ◌+◌, ◌⊎◌, List, length}
+use Rattle.std.specs.Int.{w64, to_be_bytes}
 use Rattle.base64.specs.GeneralPurpose.{IsBytes}
 use Rattle.kms_aes.specs.Cipher.{IsBytes as IsCountedBytes, IsBlock}
-use Rattle.kms_fernet.specs.Token.{IsToken, Opens, OpensToOne, OpensToNone, IsFault}
+use Rattle.kms_fernet.specs.Cbc.{padded}
+use Rattle.kms_fernet.specs.Key.{IsBase64url}
+use Rattle.kms_fernet.specs.Token.{IsToken, moment_of, iv_of, Opens, OpensToOne, OpensToNone, IsFault}
 use Rattle.kms_fernet.specs.declared.open_fault.OpenFault.{OpenFault}
 
 -- what is sealed opens to what was sealed, a text opens to one plain text at most, and has no fault
@@ -16,6 +19,20 @@ pub record TokensOpenOnce : Type 0 where
       → IsFault key text fault → OpensToNone key text
   pub one_fault : (key text : List ℕ) (first second : OpenFault)
       → IsFault key text first → IsFault key text second → first ≡ second
+
+-- the bytes of the token have the moment and the initialization vector, and are as many as those of the padded plain text
+-- and 57 more
+pub record TokenHasParts (text : List ℕ) (moment : ℕ) (iv plain : List ℕ) : Type 0 where
+  pub raw : List ℕ
+  pub read : IsBase64url text raw
+  pub moment_is : moment_of raw ≡ to_be_bytes w64 moment
+  pub iv_is : iv_of raw ≡ iv
+  pub len : length raw ≡ 57 + length (padded plain)
+
+-- What is sealed has the parts that it was sealed with: so two tokens of one text have one vector and one moment.
+abbrev pub TokensHaveTheirParts : Type 0
+TokensHaveTheirParts = (key plain iv text : List ℕ) (moment : ℕ) → IsCountedBytes 32 key → IsBytes plain → IsBlock iv
+    → moment < 2 ^ 64 → IsToken key moment iv plain text → TokenHasParts text moment iv plain
 
 -- the text opens to one plain text, and has no fault
 pub record OpensOnce (key text : List ℕ) : Type 0 where

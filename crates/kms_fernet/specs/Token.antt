@@ -43,6 +43,10 @@ OpensToNone key text = (plain : List ℕ) → ¬ Opens key text plain
 
 -- ---- what stands in the bytes of a token
 
+-- the moment, as a number of 64 bits, the highest first
+abbrev pub moment_of : List ℕ → List ℕ
+moment_of raw = take 8 (drop 1 raw)
+
 abbrev pub iv_of : List ℕ → List ℕ
 iv_of raw = take 16 (drop 9 raw)
 

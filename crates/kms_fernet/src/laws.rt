@@ -1,5 +1,5 @@
 // What holds of tokens.
-ghost use Rattle.kms_fernet.specs.Laws.{OpensOrFails, TokensOpenOnce};
+ghost use Rattle.kms_fernet.specs.Laws.{OpensOrFails, TokensHaveTheirParts, TokensOpenOnce};
 
 /// What `seal` gives opens to what was sealed. A text opens to one plain text at most, and not where
 /// it has a fault, of which it has one at most.
@@ -11,4 +11,10 @@ pub fn tokens_open_once()
 /// just one fault, and opens to nothing.
 pub fn opens_or_fails()
     ensures { OpensOrFails }
+{}
+
+/// The bytes of a token have the moment and the initialization vector that it was sealed with, and are 57 more than
+/// those of the padded plain text.
+pub fn tokens_have_their_parts()
+    ensures { TokensHaveTheirParts }
 {}

@@ -9,3 +9,4 @@ mod PossibleLaws
 mod RecordingLaws
 mod SourceLaws
 pub mod StoreLaws
+pub mod ToldLaws

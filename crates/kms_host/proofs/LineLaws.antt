@@ -6,7 +6,7 @@ use Rattle.kms_host.specs.History.{History, WhereTold, then_call}
 use Rattle.kms_host.specs.Moment.{then_calls}
 use Rattle.kms_host.specs.Line.{taken, sent, times, is_empty, at_end, failed_on, is_shut, opened, IsOpen, OnlyGives}
 use Rattle.kms_host.specs.declared.call.Call.{Call}
-use Rattle.kms_host.specs.declared.call.Call.TheVariants.{Text, Attached, Took, Gave, Shut, OnFile, Told, Drew}
+use Rattle.kms_host.specs.declared.call.Call.TheVariants.{Text, Listened, Came, Attached, Took, Gave, Shut, OnFile, Told, Drew}
 use Rattle.kms_host.proofs.Moments.{then_calls-calls}
 
 grow : (b : Bool) (s t u : List ℕ) → cond b (s ++ t ++ u) (s ++ t) ≡ s ++ cond b (t ++ u) t
@@ -26,6 +26,8 @@ neither false b is = (refl, is)
 pub taken-append : (line : ℕ) (late early : List Call) → taken line (late ++ early) ≡ taken line early ++ taken line late
 taken-append line [] early = sym (append-nil _)
 taken-append line (Text name room bytes ∷ late) early = taken-append line late early
+taken-append line (Listened address done ∷ late) early = taken-append line late early
+taken-append line (Came next ∷ late) early = taken-append line late early
 taken-append line (Attached name done ∷ late) early = taken-append line late early
 taken-append line (Took l room (Some bytes) ∷ late) early =
     ap (λ (x : List ℕ). cond (nat_eq l line) (x ++ bytes) x) (taken-append line late early) ∙ grow (nat_eq l line) (taken line early) (taken line late) bytes
@@ -39,6 +41,8 @@ taken-append line (Drew purpose bytes ∷ late) early = taken-append line late e
 pub sent-append : (line : ℕ) (late early : List Call) → sent line (late ++ early) ≡ sent line early ++ sent line late
 sent-append line [] early = sym (append-nil _)
 sent-append line (Text name room bytes ∷ late) early = sent-append line late early
+sent-append line (Listened address done ∷ late) early = sent-append line late early
+sent-append line (Came next ∷ late) early = sent-append line late early
 sent-append line (Attached name done ∷ late) early = sent-append line late early
 sent-append line (Took l room bytes ∷ late) early = sent-append line late early
 sent-append line (Gave l piece (Some n) ∷ late) early =
@@ -52,6 +56,8 @@ sent-append line (Drew purpose bytes ∷ late) early = sent-append line late ear
 pub times-append : (late early : List Call) → times (late ++ early) ≡ times early ++ times late
 times-append [] early = sym (append-nil _)
 times-append (Text name room bytes ∷ late) early = times-append late early
+times-append (Listened address done ∷ late) early = times-append late early
+times-append (Came line ∷ late) early = times-append late early
 times-append (Attached name done ∷ late) early = times-append late early
 times-append (Took l room bytes ∷ late) early = times-append late early
 times-append (Gave l piece went ∷ late) early = times-append late early
@@ -63,6 +69,8 @@ times-append (Drew purpose bytes ∷ late) early = times-append late early
 pub at_end-append : (line : ℕ) (late early : List Call) → at_end line (late ++ early) ≡ (at_end line late || at_end line early)
 at_end-append line [] early = refl
 at_end-append line (Text name room bytes ∷ late) early = at_end-append line late early
+at_end-append line (Listened address done ∷ late) early = at_end-append line late early
+at_end-append line (Came next ∷ late) early = at_end-append line late early
 at_end-append line (Attached name done ∷ late) early = at_end-append line late early
 at_end-append line (Took l room (Some bytes) ∷ late) early =
     ap (λ (x : Bool). (nat_eq l line && is_empty bytes) || x) (at_end-append line late early)
@@ -77,6 +85,8 @@ at_end-append line (Drew purpose bytes ∷ late) early = at_end-append line late
 pub failed_on-append : (line : ℕ) (late early : List Call) → failed_on line (late ++ early) ≡ (failed_on line late || failed_on line early)
 failed_on-append line [] early = refl
 failed_on-append line (Text name room bytes ∷ late) early = failed_on-append line late early
+failed_on-append line (Listened address done ∷ late) early = failed_on-append line late early
+failed_on-append line (Came next ∷ late) early = failed_on-append line late early
 failed_on-append line (Attached name done ∷ late) early = failed_on-append line late early
 failed_on-append line (Took l room (Some bytes) ∷ late) early = failed_on-append line late early
 failed_on-append line (Took l room None ∷ late) early =
@@ -92,6 +102,8 @@ failed_on-append line (Drew purpose bytes ∷ late) early = failed_on-append lin
 pub is_shut-append : (line : ℕ) (late early : List Call) → is_shut line (late ++ early) ≡ (is_shut line late || is_shut line early)
 is_shut-append line [] early = refl
 is_shut-append line (Text name room bytes ∷ late) early = is_shut-append line late early
+is_shut-append line (Listened address done ∷ late) early = is_shut-append line late early
+is_shut-append line (Came next ∷ late) early = is_shut-append line late early
 is_shut-append line (Attached name done ∷ late) early = is_shut-append line late early
 is_shut-append line (Took l room bytes ∷ late) early = is_shut-append line late early
 is_shut-append line (Gave l piece went ∷ late) early = is_shut-append line late early
@@ -104,6 +116,10 @@ is_shut-append line (Drew purpose bytes ∷ late) early = is_shut-append line la
 pub opened-append : (late early : List Call) → opened (late ++ early) ≡ opened late + opened early
 opened-append [] early = omega arith
 opened-append (Text name room bytes ∷ late) early = opened-append late early
+opened-append (Listened address done ∷ late) early = opened-append late early
+opened-append (Came None ∷ late) early = opened-append late early
+opened-append (Came (Some None) ∷ late) early = opened-append late early
+opened-append (Came (Some (Some line)) ∷ late) early = omega (arith, opened-append late early)
 opened-append (Attached name done ∷ late) early = opened-append late early
 opened-append (Took l room bytes ∷ late) early = opened-append late early
 opened-append (Gave l piece went ∷ late) early = opened-append late early
@@ -115,6 +131,8 @@ opened-append (Drew purpose bytes ∷ late) early = opened-append late early
 pub OnlyGives-append : (line : ℕ) (late early : List Call) → OnlyGives line late → OnlyGives line early → OnlyGives line (late ++ early)
 OnlyGives-append line [] early after before = before
 OnlyGives-append line (Text name room bytes ∷ late) early after before = absurd after
+OnlyGives-append line (Listened address done ∷ late) early after before = absurd after
+OnlyGives-append line (Came next ∷ late) early after before = absurd after
 OnlyGives-append line (Attached name done ∷ late) early after before = absurd after
 OnlyGives-append line (Took l room bytes ∷ late) early after before = absurd after
 OnlyGives-append line (Gave l piece went ∷ late) early after before = (after.0, OnlyGives-append line late early after.1 before)
@@ -128,6 +146,8 @@ OnlyGives-append line (Drew purpose bytes ∷ late) early after before = absurd 
 pub taken-gives : (line l : ℕ) (gives early : List Call) → OnlyGives l gives → taken line (gives ++ early) ≡ taken line early
 taken-gives line l [] early only = refl
 taken-gives line l (Text name room bytes ∷ gives) early only = absurd only
+taken-gives line l (Listened address done ∷ gives) early only = absurd only
+taken-gives line l (Came next ∷ gives) early only = absurd only
 taken-gives line l (Attached name done ∷ gives) early only = absurd only
 taken-gives line l (Took k room bytes ∷ gives) early only = absurd only
 taken-gives line l (Gave k piece went ∷ gives) early only = taken-gives line l gives early only.1
@@ -139,6 +159,8 @@ taken-gives line l (Drew purpose bytes ∷ gives) early only = absurd only
 pub times-gives : (l : ℕ) (gives early : List Call) → OnlyGives l gives → times (gives ++ early) ≡ times early
 times-gives l [] early only = refl
 times-gives l (Text name room bytes ∷ gives) early only = absurd only
+times-gives l (Listened address done ∷ gives) early only = absurd only
+times-gives l (Came line ∷ gives) early only = absurd only
 times-gives l (Attached name done ∷ gives) early only = absurd only
 times-gives l (Took k room bytes ∷ gives) early only = absurd only
 times-gives l (Gave k piece went ∷ gives) early only = times-gives l gives early only.1
@@ -150,6 +172,8 @@ times-gives l (Drew purpose bytes ∷ gives) early only = absurd only
 pub at_end-gives : (line l : ℕ) (gives early : List Call) → OnlyGives l gives → at_end line (gives ++ early) ≡ at_end line early
 at_end-gives line l [] early only = refl
 at_end-gives line l (Text name room bytes ∷ gives) early only = absurd only
+at_end-gives line l (Listened address done ∷ gives) early only = absurd only
+at_end-gives line l (Came next ∷ gives) early only = absurd only
 at_end-gives line l (Attached name done ∷ gives) early only = absurd only
 at_end-gives line l (Took k room bytes ∷ gives) early only = absurd only
 at_end-gives line l (Gave k piece went ∷ gives) early only = at_end-gives line l gives early only.1
@@ -161,6 +185,8 @@ at_end-gives line l (Drew purpose bytes ∷ gives) early only = absurd only
 pub is_shut-gives : (line l : ℕ) (gives early : List Call) → OnlyGives l gives → is_shut line (gives ++ early) ≡ is_shut line early
 is_shut-gives line l [] early only = refl
 is_shut-gives line l (Text name room bytes ∷ gives) early only = absurd only
+is_shut-gives line l (Listened address done ∷ gives) early only = absurd only
+is_shut-gives line l (Came next ∷ gives) early only = absurd only
 is_shut-gives line l (Attached name done ∷ gives) early only = absurd only
 is_shut-gives line l (Took k room bytes ∷ gives) early only = absurd only
 is_shut-gives line l (Gave k piece went ∷ gives) early only = is_shut-gives line l gives early only.1
@@ -172,6 +198,8 @@ is_shut-gives line l (Drew purpose bytes ∷ gives) early only = absurd only
 pub opened-gives : (l : ℕ) (gives early : List Call) → OnlyGives l gives → opened (gives ++ early) ≡ opened early
 opened-gives l [] early only = refl
 opened-gives l (Text name room bytes ∷ gives) early only = absurd only
+opened-gives l (Listened address done ∷ gives) early only = absurd only
+opened-gives l (Came line ∷ gives) early only = absurd only
 opened-gives l (Attached name done ∷ gives) early only = absurd only
 opened-gives l (Took k room bytes ∷ gives) early only = absurd only
 opened-gives l (Gave k piece went ∷ gives) early only = opened-gives l gives early only.1
@@ -184,6 +212,8 @@ opened-gives l (Drew purpose bytes ∷ gives) early only = absurd only
 pub failed_on-gives : (line l : ℕ) (gives early : List Call) → OnlyGives l gives → failed_on l gives ≡ false → failed_on line (gives ++ early) ≡ failed_on line early
 failed_on-gives line l [] early only well = refl
 failed_on-gives line l (Text name room bytes ∷ gives) early only well = absurd only
+failed_on-gives line l (Listened address done ∷ gives) early only well = absurd only
+failed_on-gives line l (Came next ∷ gives) early only well = absurd only
 failed_on-gives line l (Attached name done ∷ gives) early only well = absurd only
 failed_on-gives line l (Took k room bytes ∷ gives) early only well = absurd only
 failed_on-gives line l (Gave k piece (Some n) ∷ gives) early only well = failed_on-gives line l gives early only.1 well
@@ -199,6 +229,8 @@ failed_on-gives line l (Drew purpose bytes ∷ gives) early only well = absurd o
 pub sent-gives : (line l : ℕ) (gives early : List Call) → OnlyGives l gives → nat_eq l line ≡ false → sent line (gives ++ early) ≡ sent line early
 sent-gives line l [] early only other = refl
 sent-gives line l (Text name room bytes ∷ gives) early only other = absurd only
+sent-gives line l (Listened address done ∷ gives) early only other = absurd only
+sent-gives line l (Came next ∷ gives) early only other = absurd only
 sent-gives line l (Attached name done ∷ gives) early only other = absurd only
 sent-gives line l (Took k room bytes ∷ gives) early only other = absurd only
 sent-gives line l (Gave k piece (Some n) ∷ gives) early only other =

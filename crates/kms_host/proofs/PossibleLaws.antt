@@ -6,7 +6,7 @@ use Rattle.kms_host.specs.History.{History, then_call}
 use Rattle.kms_host.specs.Disk.{Disk, disk, of_file, at_rest, put, after_write, after_cut, after_call, MayLeave}
 use Rattle.kms_host.specs.Possible.{IsAllowed, IsAllowedOn, ReadsAnImage}
 use Rattle.kms_host.specs.declared.call.Call.{Call}
-use Rattle.kms_host.specs.declared.call.Call.TheVariants.{Text, Attached, Took, Gave, Shut, OnFile, Told, Drew}
+use Rattle.kms_host.specs.declared.call.Call.TheVariants.{Text, Listened, Came, Attached, Took, Gave, Shut, OnFile, Told, Drew}
 use Rattle.kms_host.specs.declared.call.FileCall.{FileCall}
 use Rattle.kms_host.specs.declared.call.FileCall.TheVariants.{Measured, Read, Wrote, CutTo, Synced}
 use Rattle.kms_host.proofs.DiskLaws.{is_image, write_reads, cut_reads, disk_there, disk_elsewhere}
@@ -40,6 +40,8 @@ call_reads file h (Synced done) m ok = by_done (disk file h) done m
 
 after_one : (file : ℕ) (h : History) (c : Call) → Reads file h → IsAllowed h c → Reads file (then_call h c)
 after_one file h (Text name room bytes) m ok = m
+after_one file h (Listened address done) m ok = m
+after_one file h (Came line) m ok = m
 after_one file h (Attached name done) m ok = m
 after_one file h (Took l room bytes) m ok = m
 after_one file h (Gave l piece went) m ok = m

@@ -2,7 +2,7 @@
 use Rattle.std.specs.Prelude.{◌≡◌, ◌⊎◌, ℕ, zero, suc, ◌+◌, ◌≤◌, ◌<◌, min, max, List, [], ◌∷◌, ◌++◌, length, take, drop, ◌==◌, if◌then◌else◌, slice_index, Option, Some, None, unwrap_or, Result, Ok, Err}
 use Rattle.kms_host.specs.History.{History}
 use Rattle.kms_host.specs.declared.call.Call.{Call}
-use Rattle.kms_host.specs.declared.call.Call.TheVariants.{Text, Attached, Took, Gave, Shut, OnFile, Told, Drew}
+use Rattle.kms_host.specs.declared.call.Call.TheVariants.{Text, Listened, Came, Attached, Took, Gave, Shut, OnFile, Told, Drew}
 use Rattle.kms_host.specs.declared.call.FileCall.{FileCall}
 use Rattle.kms_host.specs.declared.call.FileCall.TheVariants.{Measured, Read, Wrote, CutTo, Synced}
 
@@ -49,6 +49,8 @@ after_call d (Synced done) = if done then at_rest d.reads else d
 abbrev pub disk_after : ℕ → List ℕ → List Call → Disk
 disk_after file opening [] = at_rest opening
 disk_after file opening (Text name room bytes ∷ calls) = disk_after file opening calls
+disk_after file opening (Listened address done ∷ calls) = disk_after file opening calls
+disk_after file opening (Came line ∷ calls) = disk_after file opening calls
 disk_after file opening (Attached name done ∷ calls) = disk_after file opening calls
 disk_after file opening (Took l room bytes ∷ calls) = disk_after file opening calls
 disk_after file opening (Gave l piece went ∷ calls) = disk_after file opening calls

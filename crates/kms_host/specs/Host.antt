@@ -13,12 +13,13 @@ state_of m = record {
   file_0 = m.file_0;
   file_1 = m.file_1;
   lines = m.inputs.items;
+  opened = m.opened;
   outputs = m.outputs.items;
   moments = m.moments.items;
   told = m.told;
   random = m.random;
 }
 
--- As long as the calls are told, what was sent and how the files are is what they say.
+-- As long as the calls are told, what was sent, how many lines were opened and how the files are is what they say.
 abbrev pub IsTrueToCalls : Inside → Type 0
-IsTrueToCalls m = WhereTold (state_of m).history (Agrees m.outputs.items m.file_0 m.file_1)
+IsTrueToCalls m = WhereTold (state_of m).history (Agrees m.outputs.items m.opened m.file_0 m.file_1)

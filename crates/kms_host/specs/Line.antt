@@ -1,14 +1,16 @@
 -- What the calls mean for each line and for the clock. The calls stand newest first. Each meaning has one equation for
 -- each kind of call and none for all the others, so that a new kind of call has to be said in each.
-use Rattle.std.specs.Prelude.{◌≡◌, ◌≤◌, ℕ, List, [], ◌∷◌, ◌++◌, take, Some, None, Bool, true, false, ◌==◌, ◌&&◌, ◌||◌, if◌then◌else◌}
+use Rattle.std.specs.Prelude.{◌≡◌, ◌≤◌, ◌+◌, ℕ, List, [], ◌∷◌, ◌++◌, take, Some, None, Bool, true, false, ◌==◌, ◌&&◌, ◌||◌, if◌then◌else◌}
 use Rattle.kms_host.specs.History.{History}
 use Rattle.kms_host.specs.declared.call.Call.{Call}
-use Rattle.kms_host.specs.declared.call.Call.TheVariants.{Text, Attached, Took, Gave, Shut, OnFile, Told, Drew}
+use Rattle.kms_host.specs.declared.call.Call.TheVariants.{Text, Listened, Came, Attached, Took, Gave, Shut, OnFile, Told, Drew}
 
 -- the bytes that came on a line
 abbrev pub taken : ℕ → List Call → List ℕ
 taken line [] = []
 taken line (Text name room bytes ∷ calls) = taken line calls
+taken line (Listened address done ∷ calls) = taken line calls
+taken line (Came next ∷ calls) = taken line calls
 taken line (Attached name done ∷ calls) = taken line calls
 taken line (Took l room (Some bytes) ∷ calls) = if l == line then taken line calls ++ bytes else taken line calls
 taken line (Took l room None ∷ calls) = taken line calls
@@ -22,6 +24,8 @@ taken line (Drew purpose bytes ∷ calls) = taken line calls
 abbrev pub sent : ℕ → List Call → List ℕ
 sent line [] = []
 sent line (Text name room bytes ∷ calls) = sent line calls
+sent line (Listened address done ∷ calls) = sent line calls
+sent line (Came next ∷ calls) = sent line calls
 sent line (Attached name done ∷ calls) = sent line calls
 sent line (Took l room bytes ∷ calls) = sent line calls
 sent line (Gave l piece (Some n) ∷ calls) = if l == line then sent line calls ++ take n piece else sent line calls
@@ -35,6 +39,8 @@ sent line (Drew purpose bytes ∷ calls) = sent line calls
 abbrev pub times : List Call → List ℕ
 times [] = []
 times (Text name room bytes ∷ calls) = times calls
+times (Listened address done ∷ calls) = times calls
+times (Came line ∷ calls) = times calls
 times (Attached name done ∷ calls) = times calls
 times (Took l room bytes ∷ calls) = times calls
 times (Gave l piece went ∷ calls) = times calls
@@ -51,6 +57,8 @@ is_empty (b ∷ bytes) = false
 abbrev pub at_end : ℕ → List Call → Bool
 at_end line [] = false
 at_end line (Text name room bytes ∷ calls) = at_end line calls
+at_end line (Listened address done ∷ calls) = at_end line calls
+at_end line (Came next ∷ calls) = at_end line calls
 at_end line (Attached name done ∷ calls) = at_end line calls
 at_end line (Took l room (Some bytes) ∷ calls) = (l == line && is_empty bytes) || at_end line calls
 at_end line (Took l room None ∷ calls) = at_end line calls
@@ -64,6 +72,8 @@ at_end line (Drew purpose bytes ∷ calls) = at_end line calls
 abbrev pub failed_on : ℕ → List Call → Bool
 failed_on line [] = false
 failed_on line (Text name room bytes ∷ calls) = failed_on line calls
+failed_on line (Listened address done ∷ calls) = failed_on line calls
+failed_on line (Came next ∷ calls) = failed_on line calls
 failed_on line (Attached name done ∷ calls) = failed_on line calls
 failed_on line (Took l room (Some bytes) ∷ calls) = failed_on line calls
 failed_on line (Took l room None ∷ calls) = (l == line) || failed_on line calls
@@ -78,6 +88,8 @@ failed_on line (Drew purpose bytes ∷ calls) = failed_on line calls
 abbrev pub is_shut : ℕ → List Call → Bool
 is_shut line [] = false
 is_shut line (Text name room bytes ∷ calls) = is_shut line calls
+is_shut line (Listened address done ∷ calls) = is_shut line calls
+is_shut line (Came next ∷ calls) = is_shut line calls
 is_shut line (Attached name done ∷ calls) = is_shut line calls
 is_shut line (Took l room bytes ∷ calls) = is_shut line calls
 is_shut line (Gave l piece went ∷ calls) = is_shut line calls
@@ -90,6 +102,10 @@ is_shut line (Drew purpose bytes ∷ calls) = is_shut line calls
 abbrev pub opened : List Call → ℕ
 opened [] = 0
 opened (Text name room bytes ∷ calls) = opened calls
+opened (Listened address done ∷ calls) = opened calls
+opened (Came None ∷ calls) = opened calls
+opened (Came (Some None) ∷ calls) = opened calls
+opened (Came (Some (Some line)) ∷ calls) = opened calls + 1
 opened (Attached name done ∷ calls) = opened calls
 opened (Took l room bytes ∷ calls) = opened calls
 opened (Gave l piece went ∷ calls) = opened calls
@@ -107,6 +123,8 @@ pub record IsOpen (line : ℕ) (h : History) : Type 0 where
 abbrev pub OnlyGives : ℕ → List Call → Type 0
 OnlyGives line [] = Unit {0}
 OnlyGives line (Text name room bytes ∷ calls) = ⊥
+OnlyGives line (Listened address done ∷ calls) = ⊥
+OnlyGives line (Came next ∷ calls) = ⊥
 OnlyGives line (Attached name done ∷ calls) = ⊥
 OnlyGives line (Took l room bytes ∷ calls) = ⊥
 OnlyGives line (Gave l piece went ∷ calls) = (l ≡ line) × OnlyGives line calls
@@ -119,6 +137,8 @@ OnlyGives line (Drew purpose bytes ∷ calls) = ⊥
 abbrev pub IsStill : List Call → Type 0
 IsStill [] = Unit {0}
 IsStill (Text name room bytes ∷ calls) = Unit {0}
+IsStill (Listened address done ∷ calls) = Unit {0}
+IsStill (Came line ∷ calls) = Unit {0}
 IsStill (Attached name done ∷ calls) = Unit {0}
 IsStill (Took l room bytes ∷ calls) = failed_on l calls ≡ false
 IsStill (Gave l piece went ∷ calls) = failed_on l calls ≡ false

@@ -1,5 +1,5 @@
 -- What a host in memory has ready, and what it does with it.
-use Rattle.std.specs.Prelude.{◌≡◌, ℕ, zero, suc, ◌<◌, ◌+◌, ◌-◌, ◌%◌, ◌^◌, min, List, [], ◌∷◌, ◌++◌, take, drop, length, Option, Some, None, Bool, true, false, ◌==◌, ◌||◌, nat_lt, if◌then◌else◌, slice_index, slice_index_or, option_map, Result, Ok, Err, is_err}
+use Rattle.std.specs.Prelude.{◌≡◌, ℕ, zero, suc, ◌<◌, ◌+◌, ◌-◌, ◌%◌, ◌^◌, min, List, [], ◌∷◌, ◌++◌, take, drop, length, Option, Some, None, Bool, true, false, ◌==◌, ◌||◌, nat_lt, if◌then◌else◌, slice_index, slice_index_or, option_map, unwrap_or, Result, Ok, Err, is_err}
 use Rattle.std.specs.List.{list_any}
 use Rattle.kms_host.specs.Faults.{Faults}
 use Rattle.kms_host.specs.History.{History}
@@ -101,6 +101,11 @@ advanced_on line n [] = []
 advanced_on zero n (s ∷ ss) = advanced n s ∷ ss
 advanced_on (suc line) n (s ∷ ss) = s ∷ advanced_on line n ss
 
+-- The line that comes next where so many were opened besides line 0: the one after them, where one was added for it. The
+-- number of a line has 32 bits.
+abbrev pub next_line : (opened lines : ℕ) → Option ℕ
+next_line opened lines = if nat_lt (opened + 1) (min lines (2 ^ 32)) then Some (opened + 1) else None
+
 -- the bytes that were sent on a line, where each line that something was sent on stands with its bytes
 abbrev pub sent_on : ℕ → List (ℕ × List ℕ) → List ℕ
 sent_on line [] = []
@@ -152,8 +157,8 @@ with_draws ProjectKey d r = record r { project_key = d }
 with_draws OrderKey d r = record r { order_key = d }
 
 -- A host in memory: what it tells, how many calls were out of memory, the counts of each kind of call, the key files,
--- both files of the store, the lines that were added, by number from 0, what was sent on each line, the moments to tell,
--- how many were told, and the bytes to draw.
+-- both files of the store, the lines that were added, by number from 0, how many were opened besides line 0, what was sent
+-- on each line, the moments to tell, how many were told, and the bytes to draw.
 pub record MemoryState : Type 0 where
   pub history : Option History
   pub wanted : ℕ
@@ -162,6 +167,7 @@ pub record MemoryState : Type 0 where
   pub file_0 : Disk
   pub file_1 : Disk
   pub lines : List Source
+  pub opened : ℕ
   pub outputs : List (ℕ × List ℕ)
   pub moments : List ℕ
   pub told : ℕ
@@ -191,6 +197,7 @@ started_over files = record {
   file_0 = at_rest files.0;
   file_1 = at_rest files.1;
   lines = [];
+  opened = 0;
   outputs = [];
   moments = [];
   told = 0;
@@ -224,6 +231,11 @@ AddsTo line piece old new = (other : ℕ) → sent_on other new ≡ (if line == 
 -- After a call of a kind that failed or didn't, and that changes nothing more but what is told.
 abbrev pub after_counted : {T E : Type 0} → Count → Result T E → MemoryState → MemoryState → MemoryState
 after_counted count result old new = record old { history = new.history; wanted = new.wanted; counters = called_of count (is_err result) old.counters }
+
+-- After the next line was asked for. Where one came, it is the newest.
+abbrev pub after_came : {E : Type 0} → Result (Option ℕ) E → MemoryState → MemoryState → MemoryState
+after_came (Ok next) old new = record old { history = new.history; wanted = new.wanted; counters = called_of Listen false old.counters; opened = unwrap_or next old.opened }
+after_came (Err e) old new = record old { history = new.history; wanted = new.wanted; counters = called_of Listen true old.counters }
 
 -- After a call on a file. How the files are after it is said elsewhere.
 abbrev pub after_file : {T E : Type 0} → Result T E → MemoryState → MemoryState → MemoryState

@@ -3,7 +3,7 @@ use Rattle.std.specs.Prelude.{ℕ, ◌≤◌, List, [], ◌∷◌, length, Match
 use Rattle.kms_host.specs.History.{History}
 use Rattle.kms_host.specs.Disk.{disk, reads, after_write, after_cut, MayLeave}
 use Rattle.kms_host.specs.declared.call.Call.{Call}
-use Rattle.kms_host.specs.declared.call.Call.TheVariants.{Text, Attached, Took, Gave, Shut, OnFile, Told, Drew}
+use Rattle.kms_host.specs.declared.call.Call.TheVariants.{Text, Listened, Came, Attached, Took, Gave, Shut, OnFile, Told, Drew}
 use Rattle.kms_host.specs.declared.call.FileCall.{FileCall}
 use Rattle.kms_host.specs.declared.call.FileCall.TheVariants.{Measured, Read, Wrote, CutTo, Synced}
 
@@ -17,6 +17,8 @@ IsAllowedOn file h (Synced done) = Unit {0}
 
 abbrev pub IsAllowed : History → Call → Type 0
 IsAllowed h (Text name room bytes) = Unit {0}
+IsAllowed h (Listened address done) = Unit {0}
+IsAllowed h (Came line) = Unit {0}
 IsAllowed h (Attached name done) = Unit {0}
 IsAllowed h (Took l room bytes) = Unit {0}
 IsAllowed h (Gave l piece went) = Unit {0}

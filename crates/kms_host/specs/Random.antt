@@ -1,7 +1,7 @@
 -- What the calls mean for random bytes.
 use Rattle.std.specs.Prelude.{ℕ, ◌+◌, List, [], ◌∷◌, ◌++◌, Some, None, Bool, true, false, if◌then◌else◌}
 use Rattle.kms_host.specs.declared.call.Call.{Call}
-use Rattle.kms_host.specs.declared.call.Call.TheVariants.{Text, Attached, Took, Gave, Shut, OnFile, Told, Drew}
+use Rattle.kms_host.specs.declared.call.Call.TheVariants.{Text, Listened, Came, Attached, Took, Gave, Shut, OnFile, Told, Drew}
 use Rattle.kms_host.specs.declared.call.Purpose.{Purpose}
 use Rattle.kms_host.specs.declared.call.Purpose.TheVariants.{Tag, Iv, ProjectKey, OrderKey}
 
@@ -16,6 +16,8 @@ is_for p q = false
 abbrev pub drawn : Purpose → List Call → List ℕ
 drawn purpose [] = []
 drawn purpose (Text name room bytes ∷ calls) = drawn purpose calls
+drawn purpose (Listened address done ∷ calls) = drawn purpose calls
+drawn purpose (Came line ∷ calls) = drawn purpose calls
 drawn purpose (Attached name done ∷ calls) = drawn purpose calls
 drawn purpose (Took l room bytes ∷ calls) = drawn purpose calls
 drawn purpose (Gave l piece went ∷ calls) = drawn purpose calls
@@ -29,6 +31,8 @@ drawn purpose (Drew p None ∷ calls) = drawn purpose calls
 abbrev pub failed_draws : List Call → ℕ
 failed_draws [] = 0
 failed_draws (Text name room bytes ∷ calls) = failed_draws calls
+failed_draws (Listened address done ∷ calls) = failed_draws calls
+failed_draws (Came line ∷ calls) = failed_draws calls
 failed_draws (Attached name done ∷ calls) = failed_draws calls
 failed_draws (Took l room bytes ∷ calls) = failed_draws calls
 failed_draws (Gave l piece went ∷ calls) = failed_draws calls

@@ -1,7 +1,7 @@
 -- What a host in memory keeps of its calls.
 use Rattle.std.specs.Prelude.{◌≡◌, ◌≤◌, ℕ, List, ◌∷◌, Option, Some, None, Result, IsOkAnd, Bool, is_some, is_none, ◌&&◌, ◌||◌, if◌then◌else◌, option_map, reverse}
 use Rattle.kms_host.specs.History.{History}
-use Rattle.kms_host.specs.Line.{sent}
+use Rattle.kms_host.specs.Line.{sent, opened}
 use Rattle.kms_host.specs.Memory.{next, sent_on}
 use Rattle.kms_host.specs.Disk.{Disk, disk, after_call}
 use Rattle.kms_host.specs.declared.call.Call.{Call}
@@ -39,8 +39,9 @@ pub record Counts (old new : Recording) : Type 0 where
 abbrev pub history_of : List ℕ × List ℕ → List (List ℕ × List ℕ) → Option (List Call) → Option History
 history_of opening key_files calls = option_map (λ calls. record { opening = opening; key_files = key_files; calls = calls }) calls
 
--- what was sent, and how the files are, is what the calls say
-pub record Agrees (outputs : List (ℕ × List ℕ)) (file_0 file_1 : Disk) (h : History) : Type 0 where
+-- what was sent, how many lines were opened, and how the files are, is what the calls say
+pub record Agrees (outputs : List (ℕ × List ℕ)) (lines : ℕ) (file_0 file_1 : Disk) (h : History) : Type 0 where
   pub sent_is : (line : ℕ) → sent_on line outputs ≡ sent line h.calls
+  pub opened_is : opened h.calls ≡ lines
   pub file_0_is : disk 0 h ≡ file_0
   pub file_1_is : disk 1 h ≡ file_1

@@ -2,7 +2,7 @@
 use Rattle.std.specs.Prelude.{◌≡◌, ℕ, ◌+◌, List, [], ◌∷◌, Bool, true, false, Ok, Err, is_none, is_some, not, if◌then◌else◌}
 use Rattle.kms_host.specs.History.{History}
 use Rattle.kms_host.specs.declared.call.Call.{Call}
-use Rattle.kms_host.specs.declared.call.Call.TheVariants.{Text, Attached, Took, Gave, Shut, OnFile, Told, Drew}
+use Rattle.kms_host.specs.declared.call.Call.TheVariants.{Text, Listened, Came, Attached, Took, Gave, Shut, OnFile, Told, Drew}
 use Rattle.kms_host.specs.declared.call.FileCall.{FileCall}
 use Rattle.kms_host.specs.declared.call.FileCall.TheVariants.{Measured, Read, Wrote, CutTo, Synced}
 use Rattle.kms_host.specs.declared.call.NameFault.TheVariants.{Failed, NoMemory}
@@ -11,6 +11,8 @@ use Rattle.kms_host.specs.declared.call.NameFault.TheVariants.{Failed, NoMemory}
 abbrev pub apart_from_files : List Call → List Call
 apart_from_files [] = []
 apart_from_files (Text name room bytes ∷ calls) = Text name room bytes ∷ apart_from_files calls
+apart_from_files (Listened address done ∷ calls) = Listened address done ∷ apart_from_files calls
+apart_from_files (Came line ∷ calls) = Came line ∷ apart_from_files calls
 apart_from_files (Attached name done ∷ calls) = Attached name done ∷ apart_from_files calls
 apart_from_files (Took l room bytes ∷ calls) = Took l room bytes ∷ apart_from_files calls
 apart_from_files (Gave l piece went ∷ calls) = Gave l piece went ∷ apart_from_files calls
@@ -26,6 +28,8 @@ others h = apart_from_files h.calls
 abbrev pub is_attached : List Call → Bool
 is_attached [] = false
 is_attached (Text name room bytes ∷ calls) = is_attached calls
+is_attached (Listened address done ∷ calls) = is_attached calls
+is_attached (Came line ∷ calls) = is_attached calls
 is_attached (Attached name (Ok done) ∷ calls) = true
 is_attached (Attached name (Err fault) ∷ calls) = is_attached calls
 is_attached (Took l room bytes ∷ calls) = is_attached calls
@@ -35,6 +39,21 @@ is_attached (OnFile file c ∷ calls) = is_attached calls
 is_attached (Told t ∷ calls) = is_attached calls
 is_attached (Drew purpose bytes ∷ calls) = is_attached calls
 
+-- no other store was attached than the one of this name
+abbrev pub OnlyAttached : List ℕ → List Call → Type 0
+OnlyAttached store [] = Unit {0}
+OnlyAttached store (Text name room bytes ∷ calls) = OnlyAttached store calls
+OnlyAttached store (Listened address done ∷ calls) = OnlyAttached store calls
+OnlyAttached store (Came line ∷ calls) = OnlyAttached store calls
+OnlyAttached store (Attached name (Ok done) ∷ calls) = (name ≡ store) × OnlyAttached store calls
+OnlyAttached store (Attached name (Err fault) ∷ calls) = OnlyAttached store calls
+OnlyAttached store (Took l room bytes ∷ calls) = OnlyAttached store calls
+OnlyAttached store (Gave l piece went ∷ calls) = OnlyAttached store calls
+OnlyAttached store (Shut l ∷ calls) = OnlyAttached store calls
+OnlyAttached store (OnFile file c ∷ calls) = OnlyAttached store calls
+OnlyAttached store (Told t ∷ calls) = OnlyAttached store calls
+OnlyAttached store (Drew purpose bytes ∷ calls) = OnlyAttached store calls
+
 pub record IsAttached (h : History) : Type 0 where
   pub done : is_attached h.calls ≡ true
 
@@ -42,6 +61,8 @@ pub record IsAttached (h : History) : Type 0 where
 abbrev pub syncs : List Call → ℕ
 syncs [] = 0
 syncs (Text name room bytes ∷ calls) = syncs calls
+syncs (Listened address done ∷ calls) = syncs calls
+syncs (Came line ∷ calls) = syncs calls
 syncs (Attached name done ∷ calls) = syncs calls
 syncs (Took l room bytes ∷ calls) = syncs calls
 syncs (Gave l piece went ∷ calls) = syncs calls
@@ -65,6 +86,8 @@ file_call_failed (Synced done) = not done
 -- The call is one of the store, and the outside failed in it. Being out of memory is no such fault.
 abbrev pub store_call_failed : Call → Bool
 store_call_failed (Text name room bytes) = false
+store_call_failed (Listened address done) = false
+store_call_failed (Came line) = false
 store_call_failed (Attached name (Ok done)) = false
 store_call_failed (Attached name (Err Failed)) = true
 store_call_failed (Attached name (Err NoMemory)) = false

@@ -64,6 +64,10 @@ pub enum Call {
     Text(Bytes, usize, Result<Bytes, NameFault>),
     /// A name for the store, and whether its files could be opened.
     Attached(Bytes, Result<(), NameFault>),
+    /// An address for lines, and whether it could be listened at.
+    Listened(Bytes, Result<(), NameFault>),
+    /// The number of the next line, or none where no more come. None where the call failed.
+    Came(Option<Option<u32>>),
     /// A line, the length of the room, and the bytes that came. No bytes are the line's end.
     Took(u32, usize, Option<Bytes>),
     /// A line, the piece, and the length of the front of it that was sent.

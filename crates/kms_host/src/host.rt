@@ -1,9 +1,9 @@
 // The outside as one value.
-ghost use Rattle.std.specs.Prelude.{◌≡◌, ◌≤◌, ◌<◌, ◌+◌, ◌^◌, ℕ, List, length, drop, Option, Some, IfOk, OnOk, is_ok, false};
+ghost use Rattle.std.specs.Prelude.{◌≡◌, ◌≤◌, ◌<◌, ◌+◌, ◌^◌, ℕ, List, length, drop, Option, Some, IfOk, IfSome, OnOk, is_ok};
 ghost use Rattle.kms_host.specs.History.{History, Tells, WhereTold, Stops, HasFirst, then_call, answer, given, given_by_name, filled};
 ghost use Rattle.kms_host.specs.Faults.{Faults, HasCause, HasNameCause, NeverFalls};
-ghost use Rattle.kms_host.specs.Line.{IsOpen};
-ghost use Rattle.kms_host.specs.Store.{IsAttached, is_attached};
+ghost use Rattle.kms_host.specs.Line.{IsOpen, opened};
+ghost use Rattle.kms_host.specs.Store.{IsAttached, OnlyAttached};
 ghost use Rattle.kms_host.specs.KeyFiles.{named};
 ghost use Rattle.kms_host.specs.Disk.{disk, reads, after_write, after_cut, Left};
 ghost use Rattle.kms_host.specs.declared.call.Call.TheVariants as calls;
@@ -36,13 +36,29 @@ pub trait Host {
         ensures cause { HasNameCause counts.KeyFile (faults self.old) (faults self.new) result }
         ensures stops { Stops (wanted self.old) (wanted self.new) (history self.old) (history self.new) };
 
-    /// Names the store, and opens its files 0 and 1. One that isn't there is made, empty. A host has one store, and is
-    /// told its name once.
+    /// Names the store, and opens its files 0 and 1. One that isn't there is made, empty. A host has one store: only the
+    /// same one is named again.
     fn attach(&mut self, name: &str) -> Result<(), NameFault>
-        requires { WhereTold (history self.old) (λ h. is_attached h.calls ≡ false) }
+        requires { WhereTold (history self.old) (λ h. OnlyAttached name.now h.calls) }
         ensures told { Tells (history self.old) (history self.new) (λ was now.
             now ≡ then_call was (calls.Attached name.now result)) }
         ensures cause { HasNameCause counts.Store (faults self.old) (faults self.new) result }
+        ensures stops { Stops (wanted self.old) (wanted self.new) (history self.old) (history self.new) };
+
+    /// Names the address that further lines come to.
+    fn listen(&mut self, address: &str) -> Result<(), NameFault>
+        ensures told { Tells (history self.old) (history self.new) (λ was now.
+            now ≡ then_call was (calls.Listened address.now result)) }
+        ensures cause { HasNameCause counts.Listen (faults self.old) (faults self.new) result }
+        ensures stops { Stops (wanted self.old) (wanted self.new) (history self.old) (history self.new) };
+
+    /// The next line, by its number: 1 at first, and then one more than the line before. None where no more come, as
+    /// behind line 4,294,967,295. Line 0 is there from the start.
+    fn next_line(&mut self) -> Result<Option<u32>, Failed>
+        ensures told { Tells (history self.old) (history self.new) (λ was now.
+            (now ≡ then_call was (calls.Came (answer result)))
+            × IfOk result (λ next. IfSome next (λ line. line ≡ opened was.calls + 1))) }
+        ensures cause { HasCause counts.Listen (faults self.old) (faults self.new) result }
         ensures stops { Stops (wanted self.old) (wanted self.new) (history self.old) (history self.new) };
 
     /// The next bytes of a line, at least one, at the front of the room; answers their number, or 0 at the line's end.

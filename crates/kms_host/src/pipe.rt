@@ -1,27 +1,36 @@
 // The trusted edge towards the machine: files, standard input and output, the system's clock and its random source.
-ghost use Rattle.std.specs.Prelude.{◌≡◌, ◌≤◌, None, OnErr};
+ghost use Rattle.std.specs.Prelude.{◌≡◌, ◌≤◌, None, OnErr, IfOk, length};
 ghost use Rattle.kms_host.specs.Faults.{no_faults, Rose};
 
 mod files;
+mod limit;
 mod stream;
 
 use crate::pipe::files::{StoreFiles, read_front};
-use crate::pipe::stream::{read_some, seconds, write_some};
+use crate::pipe::stream::{Streams, seconds};
 use crate::{Failed, Host, NameFault, Purpose};
+use std::io::Write;
 use std::marker::Model;
 use std::random::RandomSource;
 use std::rt::HostRuntime;
 
 /// A host whose line 0 is standard input and output. Any other line is at its end, and giving to it fails. A store is
 /// the two files `NAME.0` and `NAME.1`. It tells nothing but how many of its calls failed.
+///
+/// The process makes its host before it opens a file. No file is then read or written in the place of a standard stream
+/// that was closed when the process started, and neither a reader that went away nor the limit on the length of files ends
+/// the process: the call fails.
 #[derive(Drop)]
 pub struct PipeHost {
     rt: HostRuntime,
+    // None where they couldn't be had. Then no file is opened.
+    streams: Option<Streams>,
     files: Option<StoreFiles>,
     key_file: u64,
     store: u64,
     link: u64,
     draw: u64,
+    listen: u64,
 }
 
 impl Model for PipeHost {
@@ -29,7 +38,7 @@ impl Model for PipeHost {
 
     ghost Value = { Faults };
 
-    ghost view = { λ p. record { key_file = p.key_file; store = p.store; link = p.link; draw = p.draw; listen = 0 } };
+    ghost view = { λ p. record { key_file = p.key_file; store = p.store; link = p.link; draw = p.draw; listen = p.listen } };
 }
 
 impl PipeHost {
@@ -39,11 +48,41 @@ impl PipeHost {
     {
         PipeHost {
             rt,
+            streams: Streams::open(rt).ok(),
             files: None,
             key_file: 0,
             store: 0,
             link: 0,
             draw: 0,
+            listen: 0,
+        }
+    }
+
+    /// Writes a line for the operator to standard error. It is lost where that can't be.
+    pub fn tell(&self, line: &[u8]) {
+        match &self.streams {
+            Some(streams) => streams.tell(self.rt, line),
+            None => {
+                let _ = self.rt.stderr().write_all(line);
+            }
+        }
+    }
+
+    // The front of a file. Nothing is opened without the streams.
+    fn front(&self, name: &str, room: &mut [u8]) -> Result<usize, Failed>
+        ensures { IfOk result (λ n. n ≤ length room.new) }
+    {
+        match &self.streams {
+            Some(_) => read_front(self.rt, name, room),
+            None => Err(Failed),
+        }
+    }
+
+    // The files of a store, likewise.
+    fn open_files(&self, name: &str) -> Result<StoreFiles, NameFault> {
+        match &self.streams {
+            Some(_) => StoreFiles::open(self.rt, name),
+            None => Err(NameFault::Failed),
         }
     }
 }
@@ -68,7 +107,7 @@ impl Host for PipeHost {
     ghost wanted = { λ _. 0 };
 
     fn text(&mut self, name: &str, room: &mut [u8]) -> Result<usize, NameFault> {
-        match read_front(self.rt, name, room) {
+        match self.front(name, room) {
             Ok(count) => Ok(count),
             Err(Failed) => {
                 self.key_file = self.key_file.saturating_add(1);
@@ -78,7 +117,7 @@ impl Host for PipeHost {
     }
 
     fn attach(&mut self, name: &str) -> Result<(), NameFault> {
-        match StoreFiles::open(self.rt, name) {
+        match self.open_files(name) {
             Ok(files) => {
                 self.files = Some(files);
                 Ok(())
@@ -91,15 +130,32 @@ impl Host for PipeHost {
         }
     }
 
+    fn listen(&mut self, _address: &str) -> Result<(), NameFault> {
+        self.listen = self.listen.saturating_add(1);
+        Err(NameFault::Failed)
+    }
+
+    fn next_line(&mut self) -> Result<Option<u32>, Failed> {
+        Ok(None)
+    }
+
     fn take(&mut self, line: u32, room: &mut [u8]) -> Result<usize, Failed> {
         if line != 0 {
             return Ok(0);
         }
-        counted(&mut self.link, read_some(self.rt, room))
+        let answer = match &self.streams {
+            Some(streams) => streams.read_some(self.rt, room),
+            None => Err(Failed),
+        };
+        counted(&mut self.link, answer)
     }
 
     fn give(&mut self, line: u32, piece: &[u8]) -> Result<usize, Failed> {
-        counted(&mut self.link, write_some(self.rt, line, piece))
+        let answer = match &self.streams {
+            Some(streams) => streams.write_some(self.rt, line, piece),
+            None => Err(Failed),
+        };
+        counted(&mut self.link, answer)
     }
 
     fn shut(&mut self, _line: u32) {}
@@ -162,7 +218,8 @@ impl Host for PipeHost {
 #[cfg(test)]
 mod tests {
     use super::PipeHost;
-    use crate::{Host, Purpose};
+    use super::limit::limit_in;
+    use crate::{Host, NameFault, Purpose};
     use std::fs;
     use std::rt::HostRuntime;
     use std::test::Fail;
@@ -199,5 +256,28 @@ mod tests {
         fs::remove_file(&rt, "edge-of-kms-host.0")?;
         fs::remove_file(&rt, "edge-of-kms-host.1")?;
         Ok(())
+    }
+
+    // Where a folder has one of a store's names, or the name itself, nothing is made.
+    #[test]
+    fn a_folder_is_no_store(rt: HostRuntime) -> Result<(), Fail> {
+        let mut host = PipeHost::new(rt);
+        fs::create_dir(&rt, "folder-of-kms-host.1")?;
+        assert!(rt; host.attach("folder-of-kms-host") == Err(NameFault::Failed));
+        assert!(rt; host.attach("folder-of-kms-host.1") == Err(NameFault::Failed));
+        assert!(rt; fs::metadata(&rt, "folder-of-kms-host.0").is_err());
+        assert!(rt; fs::metadata(&rt, "folder-of-kms-host.1.0").is_err());
+        assert!(rt; host.store == 2);
+        fs::remove_dir(&rt, "folder-of-kms-host.1")?;
+        Ok(())
+    }
+
+    #[test]
+    fn the_limit_in_force_is_read(rt: HostRuntime) {
+        let lines =
+            b"Limit            Soft Limit  Hard Limit  Units\nMax cpu time     7           unlimited   seconds\nMax file size    1024        2048        bytes\n";
+        assert!(rt; limit_in(lines) == 1024);
+        assert!(rt; limit_in(b"Max file size    unlimited   unlimited   bytes\n") == u64::MAX);
+        assert!(rt; limit_in(b"") == u64::MAX);
     }
 }

@@ -8,7 +8,7 @@ use Rattle.kms_world.specs.declared.caller.Caller.{Caller}
 use Rattle.kms_world.specs.declared.caller.Roles.{Roles}
 use Rattle.kms_world.specs.declared.operation.Op.{Op}
 use Rattle.kms_world.specs.declared.operation.Op.TheVariants.{PostSecret, GetSecret}
-use Rattle.kms_world.specs.declared.operation.SecretBody.{SecretBody}
+use Rattle.kms_world.specs.declared.body.SecretBody.{SecretBody}
 use Rattle.kms_world.specs.declared.refusal.Refusal.{Refusal}
 use Rattle.kms_world.specs.Name.{is_name, is_name_byte}
 use Rattle.kms_http.specs.declared.request.Request.{Request}
@@ -174,7 +174,17 @@ name_in body =
     if is_secret_name (take n a) then at_end (take n a) rest else None
 
 abbrev pub named_body : List ℕ → Result SecretBody Refusal
-named_body name = Ok (record { name = Some name })
+named_body name = Ok (record {
+  name = Some name;
+  algorithm = None;
+  bit_length = None;
+  mode = None;
+  secret_type = None;
+  expiration = None;
+  payload = None;
+  payload_content_type = None;
+  payload_content_encoding = None;
+})
 
 abbrev pub post_op : List ℕ → Op
 post_op name = PostSecret (named_body name)
@@ -184,4 +194,4 @@ abbrev pub post_of : Caller → List ℕ → Request
 post_of caller name = record { caller = caller; op = post_op name }
 
 abbrev pub get_of : Caller → Id → Request
-get_of caller id = record { caller = caller; op = GetSecret (Some id) }
+get_of caller id = record { caller = caller; op = GetSecret (Some id) None }

@@ -60,6 +60,16 @@ pub fn post_secret(alloc: Global, name: &[u8]) -> Result<Op, NoMemory>
     ensures { IfOk result (λ op. op ≡ spec.post_op name.now) }
 {
     let name = Some(text_of(alloc, name)?);
-    let body = Ok(SecretBody { name });
+    let body = Ok(SecretBody {
+        name,
+        algorithm: None,
+        bit_length: None,
+        mode: None,
+        secret_type: None,
+        expiration: None,
+        payload: None,
+        payload_content_type: None,
+        payload_content_encoding: None,
+    });
     Ok(Op::PostSecret { body })
 }

@@ -50,7 +50,10 @@ fn with_form(alloc: Global, form: Form, bytes: &[u8], head: usize) -> Result<Fou
             posted(alloc, caller, body, head + size)
         }
         Form::Get(caller, id) => {
-            let op = Op::GetSecret { id: Some(id) };
+            let op = Op::GetSecret {
+                id: Some(id),
+                accept: None,
+            };
             Ok(Found::Whole(Request { caller, op }, head))
         }
     }

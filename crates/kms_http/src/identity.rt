@@ -5,18 +5,7 @@ ghost use Rattle.kms_world.specs.Name.{is_name, is_name_byte};
 ghost use Rattle.kms_http.specs.Forms as spec;
 
 use crate::past::past;
-use kms_world::{Caller, Name, Roles};
-
-fn is_name_byte(b: u8) -> bool
-    ensures { result ≡ is_name_byte b }
-{
-    (b'A' <= b && b <= b'Z')
-        || (b'a' <= b && b <= b'z')
-        || (b'0' <= b && b <= b'9')
-        || b == b'-'
-        || b == b'_'
-        || b == b'.'
-}
+use kms_world::{Caller, Name, Roles, is_name, is_name_byte};
 
 fn name_len(bytes: &[u8]) -> usize
     ensures value { result ≡ prefix_len is_name_byte bytes.now }
@@ -32,13 +21,6 @@ fn name_len(bytes: &[u8]) -> usize
         rest = after;
     }
     count
-}
-
-#[tactic(auto, using(crate::proofs::FormLaws::is_some_if))]
-fn is_name(text: &[u8]) -> bool
-    ensures { result ≡ is_name text.now }
-{
-    Name::read(text).is_some()
 }
 
 // The name at the front, and the bytes behind it.

@@ -133,7 +133,7 @@ fn is_post(request: &Request, project: &[u8], user: &[u8], name: &str) -> bool {
 }
 
 fn is_get(request: &Request, user: &[u8], number: u128) -> bool {
-    let Op::GetSecret { id: Some(id) } = &request.op else {
+    let Op::GetSecret { id: Some(id), .. } = &request.op else {
         return false;
     };
     request.caller.user.as_bytes() == user && id.0 == number

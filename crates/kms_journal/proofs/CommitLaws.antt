@@ -12,7 +12,7 @@ use Rattle.kms_journal.specs.Standing.{Standing, standing, standing_of, with_fra
 use Rattle.kms_journal.specs.Device.{IsQuiet, IsQuietStore, HasPlace, IsWriting, WritesThrough}
 use Rattle.kms_journal.specs.Position.{Position, IsPlaced}
 use Rattle.kms_journal.specs.Commit.{IsFramed, IsBeforeOrAfter, Commits}
-use Rattle.kms_journal.proofs.FileLaws.{own_standing, replaced, image_of, file_of, quiet_part, still_quiet, still_attached}
+use Rattle.kms_journal.proofs.FileLaws.{own_standing, replaced, image_of, file_of, quiet_part, rested, still_quiet, still_attached}
 use Rattle.kms_journal.proofs.FrameLaws.{Rests, rests, torn_frame, framed_bytes, torn_mark, set_bytes, adds, last_clear}
 
 -- What the store stands for is of this file. Each file other than this one is as it was, and this one's part of an image stands for s.
@@ -71,6 +71,7 @@ module _ (p new : Position) (framed : List ℕ) (was : History) (s : Standing) (
     throughout = throughout_weaker (IsWriting p.file (p.end + 1) (length framed) was) (IsBeforeOrAfter s framed was) was now (first_moment (length framed)) w.throughout;
     placed = tt;
     quiet = tt;
+    rests = tt;
     calls = tt;
   }
 
@@ -150,7 +151,7 @@ module _ (p new : Position) (framed : List ℕ) (was : History) (s : Standing) (
       }
 
   pub second_fails : {T D E : Type 0} (d : D) (x : E) (mid now : History) → IsStaged mid → WritesThrough {T = T} {E = D} p.file p.end (1 ∷ []) (Err d) mid now → Commits {T = T} {E = E} p new framed (Err x) s was now
-  second_fails d x mid now st w = record { throughout = both mid now st w.throughout; placed = tt; quiet = tt; calls = tt }
+  second_fails d x mid now st w = record { throughout = both mid now st w.throughout; placed = tt; quiet = tt; rests = tt; calls = tt }
 
   pub second_done : {T E : Type 0} (x : T) → new ≡ (let q : Position = record p { end = p.end + length framed } in q) → (mid now : History) → IsStaged mid → WritesThrough {T = T} {E = E} p.file p.end (1 ∷ []) (Ok x) mid now
       → Commits {T = T} {E = E} p new framed (Ok x) s was now
@@ -159,7 +160,8 @@ module _ (p new : Position) (framed : List ℕ) (was : History) (s : Standing) (
       record {
         throughout = both mid now st w.throughout;
         placed = ends moved mid now st last w.done;
-        quiet = λ quiet. still_quiet p.file was now (w.done ∙ ap at_rest (sym (ap (λ (d : Disk). d.reads) w.done))) (λ g ne. last.other g ne ∙ st.other g ne) quiet;
+        quiet = λ quiet. still_quiet p.file was now (rested p.file now _ w.done) (λ g ne. last.other g ne ∙ st.other g ne) quiet;
+        rests = subst (λ (f : ℕ). IsQuiet f now) (sym (ends_placed p was s lt placed).in_file) (rested p.file now _ w.done);
         calls = w.calls ∙ ap (λ (h : History). then_call (then_call h (OnFile p.file (Wrote p.end (1 ∷ []) None))) (OnFile p.file (Synced true))) st.calls;
       }
 

@@ -16,7 +16,7 @@ use Rattle.kms_journal.specs.Standing.{Standing, standing, standing_of, newer}
 use Rattle.kms_journal.specs.declared.header.Current.{Current}
 use Rattle.kms_journal.specs.declared.fault.CreateFault.TheVariants.{Exists, StoreFault}
 use Rattle.kms_journal.proofs.CurrentLaws.{found_stands}
-use Rattle.kms_journal.proofs.FileLaws.{quiet_part, still_attached, still_quiet}
+use Rattle.kms_journal.proofs.FileLaws.{quiet_part, rested, still_attached, still_quiet}
 use Rattle.kms_journal.proofs.FreshLaws.{fresh_stands, none_of}
 use Rattle.kms_journal.proofs.OpeningLaws.{untouched_keeps}
 use Rattle.kms_journal.proofs.ReadingLaws.{quiet_after}
@@ -235,6 +235,7 @@ module _ (tag : ℕ) (low : tag < 2 ^ 60) (was : History) where
               clear = ap (λ (l : List ℕ). get_or l 58 0) read ∙ rest_clear;
             },
             read,
-            λ quiet. still_quiet 0 was now (w.done ∙ ap at_rest (sym (ap (λ (d : Disk). d.reads) w.done))) other quiet,
+            λ quiet. still_quiet 0 was now (rested 0 now _ w.done) other quiet,
+            rested 0 now _ w.done,
           );
         }

@@ -6,7 +6,7 @@ use Rattle.kms_host.specs.History.{History, Tells, WhereTold, then_call}
 use Rattle.kms_host.specs.Store.{store_call_failed, failed_store_calls}
 use Rattle.kms_host.specs.declared.call.Call.{Call}
 use Rattle.kms_host.proofs.Moments.{tells_then, tells_weaker, tells_nothing}
-use Rattle.kms_journal.specs.Fault.{Fails, is_failed_gathering}
+use Rattle.kms_journal.specs.Fault.{Fails, is_newest_failed, is_failed_gathering}
 use Rattle.kms_journal.specs.declared.fault.GatherFault.{GatherFault}
 use Rattle.kms_journal.specs.declared.fault.GatherFault.TheVariants as gathering
 
@@ -28,16 +28,16 @@ pub fails_nothing : {a : Option History} {K : History → Type 0} → WhereTold 
 fails_nothing known = tells_nothing (Fails false) known (λ was k. refl)
 
 pub fails_then : {a b c : Option History} (x : Bool) → Tells a b (Fails false) → Tells b c (Fails x) → Tells a c (Fails x)
-fails_then true first second = tells_then (Fails true) first second (λ was mid now f s. omega (arith, f, s))
+fails_then true first second = tells_then (Fails true) first second (λ was mid now f s. (s.0, omega (arith, f, s.1)))
 fails_then false first second = tells_then (Fails false) first second (λ was mid now f s. s ∙ f)
 
 -- one call
 fails_once : (x : Bool) (was now : History) (c : Call) → now ≡ then_call was c → store_call_failed c ≡ x → Fails x was now
-fails_once x was now c is e = by_answer x (ap (λ (h : History). failed_store_calls h.calls) is ∙ ap (λ (t : Bool). cond t (failed_store_calls was.calls + 1) (failed_store_calls was.calls)) e)
+fails_once x was now c is e = by_answer x (ap (λ (h : History). is_newest_failed h.calls) is ∙ e) (ap (λ (h : History). failed_store_calls h.calls) is ∙ ap (λ (t : Bool). cond t (failed_store_calls was.calls + 1) (failed_store_calls was.calls)) e)
   where
-    by_answer : (t : Bool) → failed_store_calls now.calls ≡ cond t (failed_store_calls was.calls + 1) (failed_store_calls was.calls) → Fails t was now
-    by_answer true n = omega (arith, n)
-    by_answer false n = n
+    by_answer : (t : Bool) → is_newest_failed now.calls ≡ t → failed_store_calls now.calls ≡ cond t (failed_store_calls was.calls + 1) (failed_store_calls was.calls) → Fails t was now
+    by_answer true last n = (last, n)
+    by_answer false last n = n
 
 -- one that only reads
 pub fails_reading : {a b : Option History} {Q : History → Type 0} {c : Call} (x : Bool) → store_call_failed c ≡ x → Tells a b (λ was now. (now ≡ then_call was c) × Q was) → Tells a b (Fails x)

@@ -6,7 +6,7 @@ use Rattle.kms_host.specs.History.{History}
 use Rattle.kms_host.specs.Disk.{Disk, disk, reads, files, of_file, at_rest, MayLeave, IsImage}
 use Rattle.kms_host.specs.Store.{IsAttached, others, is_attached, apart_from_files}
 use Rattle.kms_host.specs.declared.call.Call.{Call}
-use Rattle.kms_host.specs.declared.call.Call.TheVariants.{Text, Attached, Took, Gave, Shut, OnFile, Told, Drew}
+use Rattle.kms_host.specs.declared.call.Call.TheVariants.{Text, Listened, Came, Attached, Took, Gave, Shut, OnFile, Told, Drew}
 use Rattle.kms_host.proofs.DiskLaws.{only_image}
 use Rattle.kms_journal.specs.Device.{IsQuiet, IsQuietStore}
 use Rattle.kms_journal.specs.Standing.{Standing, is_set, standing_from, standing, newer, standing_of}
@@ -102,6 +102,10 @@ one_left [] e = absurd (omega arith)
 one_left (x ∷ []) e = refl
 one_left (x ∷ y ∷ l) e = absurd (omega arith)
 
+-- nothing is pending on a file that is at rest
+pub rested : (file : ℕ) (h : History) (bytes : List ℕ) → disk file h ≡ at_rest bytes → IsQuiet file h
+rested file h bytes is = is ∙ ap at_rest (sym (ap (λ (d : Disk). d.reads) is))
+
 -- nothing is pending where this file is quiet and the other as it was
 pub still_quiet : (file : ℕ) (was now : History) → IsQuiet file now → ((g : ℕ) → file ≢ g → disk g now ≡ disk g was) → IsQuietStore was → IsQuietStore now
 still_quiet file was now here other quiet f low = elim (eqb_tells file f) [
@@ -113,6 +117,8 @@ still_quiet file was now here other quiet f low = elim (eqb_tells file f) [
 attached_apart : (calls : List Call) → is_attached calls ≡ is_attached (apart_from_files calls)
 attached_apart [] = refl
 attached_apart (Text name room bytes ∷ calls) = attached_apart calls
+attached_apart (Listened address done ∷ calls) = attached_apart calls
+attached_apart (Came line ∷ calls) = attached_apart calls
 attached_apart (Attached name (Ok done) ∷ calls) = refl
 attached_apart (Attached name (Err fault) ∷ calls) = attached_apart calls
 attached_apart (Took l room bytes ∷ calls) = attached_apart calls

@@ -89,7 +89,7 @@ module _ (c : Current) (bytes : List ℕ) (told : IsTold c bytes) where
     stands c bytes,
     stands_whole based,
     sym stops.is_whole ∙ whole,
-    ap (λ (e : ℕ). position_at c.header e) stops.at
+    ap (λ (e : ℕ). position_at c.header e false) stops.at
         ∙ ap (λ (n : ℕ). let p : Position = record (position_of (stands c bytes)) { start = 50 + n } in p) (sym (snapshot_size based)),
   )
 
@@ -209,7 +209,7 @@ module _ (c : Current) (end : ℕ) (was mid now : History) (lt : c.header.file <
   pub opens_repair_fails : {T E : Type 0} (d : E) → ((s : Standing) → IsReadable c.header.file end mid s → Repairs {T = T} {E = E} (Err d) s mid now) → Opens (Err StoreFault) was now
   opens_repair_fails d r = record { throughout = during (Err d) (r k.answer.0 readable); answer = tt }
 
-  pub opens_done : {T E : Type 0} (x : T) (p : Position) → p ≡ position_at c.header end → ((s : Standing) → IsReadable c.header.file end mid s → Repairs {T = T} {E = E} (Ok x) s mid now) → Opens (Ok p) was now
+  pub opens_done : {T E : Type 0} (x : T) (p : Position) → p ≡ position_at c.header end false → ((s : Standing) → IsReadable c.header.file end mid s → Repairs {T = T} {E = E} (Ok x) s mid now) → Opens (Ok p) was now
   opens_done x p is r =
       let s = k.answer.0 in
       let done = r s readable in
@@ -220,6 +220,7 @@ module _ (c : Current) (end : ℕ) (was mid now : History) (lt : c.header.file <
           k.current ∙ k.answer.1,
           subst (λ (q : Position). IsPlaced q now s) (sym (is ∙ k.answer.3)) done.placed,
           λ quiet. done.quiet (quiet_after was mid (at_last (IsUntouched was) was mid k.throughout) quiet),
+          done.rests,
         );
       }
 

@@ -1,5 +1,5 @@
 -- What a journal that is placed reads.
-use Rattle.std.proofs.Common.{◌≡◌, ℕ, ◌+◌, ◌≤◌, ◌<◌, true, List, length, take, drop, sym, ◌∙◌, ap, arith, length-append, length-drop}
+use Rattle.std.proofs.Common.{◌≡◌, ℕ, ◌+◌, ◌≤◌, ◌<◌, Bool, true, List, length, take, drop, sym, ◌∙◌, ap, arith, length-append, length-drop}
 use Rattle.std.specs.Prelude.{Some}
 use Rattle.std.proofs.lemmas.List.{drop-append-le, take_at, drop_at}
 use Rattle.kms_host.specs.History.{History}
@@ -37,8 +37,8 @@ whole_parts file bytes s is whole =
     ∙ sym (ap (λ (x : Standing). x.records) h.is) in
     (base, items)
 
-module _ (header : Header) (end : ℕ) (p : Position) (was : History) (s : Standing) (view : position_at header end ≡ p) (lt : header.file < 2) (placed : IsPlaced p was s) where
-  here : position_at header end ≡ position_of s
+module _ (header : Header) (end : ℕ) (failed : Bool) (p : Position) (was : History) (s : Standing) (view : position_at header end failed ≡ p) (lt : header.file < 2) (placed : IsPlaced p was s) where
+  here : position_at header end failed ≡ position_of s
   here = view ∙ placed.here
 
   in_file : header.file ≡ s.file

@@ -12,7 +12,7 @@ use Rattle.kms_journal.specs.Device.{IsQuiet, HasPlace, IsWriting, IsCutting, Wr
 use Rattle.kms_journal.specs.Recovery.{IsReadable, HasStanding, Repairs}
 use Rattle.kms_journal.proofs.RecordLaws.{clear_stops}
 use Rattle.kms_journal.proofs.StandingLaws.{extended, FileFront, file_front}
-use Rattle.kms_journal.proofs.FileLaws.{own_standing, image_of, file_of, one_left, still_quiet, still_attached}
+use Rattle.kms_journal.proofs.FileLaws.{own_standing, image_of, file_of, one_left, rested, still_quiet, still_attached}
 use Rattle.kms_journal.proofs.CommitLaws.{by_file, by_reads}
 
 take_past : (xs ys : List ℕ) (m n : ℕ) → m ≡ length xs + n → take m (xs ++ ys) ≡ xs ++ take n ys
@@ -99,6 +99,7 @@ module _ (file end : ℕ) (was : History) (s : Standing) (lt : file < 2) (r : Is
     throughout = throughout_weaker (IsCutting file (end + 1) was) (HasStanding s was) was now cutting c.throughout;
     placed = tt;
     quiet = tt;
+    rests = tt;
   }
 
   pub record IsShort (mid : History) : Type 0 where
@@ -140,7 +141,7 @@ module _ (file end : ℕ) (was : History) (s : Standing) (lt : file < 2) (r : Is
       joined (HasStanding s was) was mid now st.during (throughout_weaker (IsWriting file end 1 mid) (HasStanding s was) mid now (λ q w. clearing mid q st w) second)
 
   pub clear_fails : {T D E : Type 0} (d : D) (e : E) (mid now : History) → IsShort mid → WritesThrough {T = T} {E = D} file end (0 ∷ []) (Err d) mid now → Repairs {T = T} {E = E} (Err e) s was now
-  clear_fails d e mid now st w = record { throughout = both mid now st w.throughout; placed = tt; quiet = tt }
+  clear_fails d e mid now st w = record { throughout = both mid now st w.throughout; placed = tt; quiet = tt; rests = tt }
 
   pub clear_done : {T E : Type 0} (x : T) (mid now : History) → IsShort mid → WritesThrough {T = T} {E = E} file end (0 ∷ []) (Ok x) mid now → Repairs {T = T} {E = E} (Ok x) s was now
   clear_done x mid now st w =
@@ -161,5 +162,6 @@ module _ (file end : ℕ) (was : History) (s : Standing) (lt : file < 2) (r : Is
           last = ap length here ∙ omega (arith, length-append g.front (0 ∷ []), size, r.at_end);
           clear = ap (λ (l : List ℕ). get_or l s.stop 0) here ∙ get_or_at g.front 0 [] 0 s.stop (omega (arith, size, r.at_end));
         };
-        quiet = λ quiet. still_quiet file was now (w.done ∙ ap at_rest (sym (ap (λ (d : Disk). d.reads) w.done))) other quiet;
+        quiet = λ quiet. still_quiet file was now (rested file now _ w.done) other quiet;
+        rests = subst (λ (f : ℕ). IsQuiet f now) (sym r.in_file) (rested file now _ w.done);
       }

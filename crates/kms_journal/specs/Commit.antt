@@ -8,7 +8,7 @@ use Rattle.kms_host.specs.Store.{others, syncs}
 use Rattle.kms_host.specs.declared.call.Call.{Call}
 use Rattle.kms_host.specs.declared.call.Call.TheVariants.{OnFile}
 use Rattle.kms_host.specs.declared.call.FileCall.TheVariants.{Wrote, Synced}
-use Rattle.kms_journal.specs.Device.{IsQuietStore}
+use Rattle.kms_journal.specs.Device.{IsQuiet, IsQuietStore}
 use Rattle.kms_journal.specs.Position.{Position, IsPlaced}
 use Rattle.kms_journal.specs.Standing.{Standing, standing_of, with_framed, record_len}
 
@@ -32,11 +32,13 @@ abbrev pub commit_calls : ℕ → ℕ → List ℕ → List Call
 commit_calls file end framed =
     OnFile file (Synced true) ∷ OnFile file (Wrote end (1 ∷ []) None) ∷ OnFile file (Synced true) ∷ OnFile file (Wrote (end + 1) framed None) ∷ []
 
--- The store has this record more, or it stands for what it stood for before. From an Ok on it is the first.
+-- The store has this record more, or it stands for what it stood for before. From an Ok on it is the first, and nothing is
+-- pending on the current file.
 pub record Commits {T E : Type 0} (old new : Position) (framed : List ℕ) (result : Result T E) (s : Standing) (was now : History) : Type 0 where
   pub throughout : Throughout (IsBeforeOrAfter s framed was) was now
   pub placed : OnOk result (IsPlaced new now (with_framed s framed))
   pub quiet : OnOk result (IsQuietStore was → IsQuietStore now)
+  pub rests : OnOk result (IsQuiet s.file now)
   pub calls : OnOk result (now ≡ then_calls was (commit_calls old.file old.end framed))
 
 -- a record, framed

@@ -35,10 +35,11 @@ pub record IsNoneOrFresh (tag : ℕ) (was h : History) : Type 0 where
   pub others : others h ≡ others was
   pub syncs : syncs h.calls ≤ syncs was.calls + 3
 
--- What each answer says. There is a fresh store where there was none, and one that is there is left as it was.
+-- What each answer says. There is a fresh store where there was none, with nothing pending on its file, and one that is there
+-- is left as it was.
 abbrev pub IsCreation : ℕ → Result (Unit {0}) CreateFault → History → History → Type 0
 IsCreation tag (Ok done) was now = (standing_of (files was) ≡ None) × IsPlaced (position_of (fresh tag)) now (fresh tag)
-    × (reads 0 now ≡ 1 ∷ fresh_rest tag) × (IsQuietStore was → IsQuietStore now)
+    × (reads 0 now ≡ 1 ∷ fresh_rest tag) × (IsQuietStore was → IsQuietStore now) × IsQuiet 0 now
 IsCreation tag (Err Exists) was now = (s : Standing) × (standing_of (files was) ≡ Some s) × IsUntouched was now
 IsCreation tag (Err StoreFault) was now = Unit {0}
 IsCreation tag (Err NoMemory) was now = ⊥

@@ -1,7 +1,8 @@
 -- Faults of a call as those of the call above, and what they say of the calls that were made.
-use Rattle.std.specs.Prelude.{◌≡◌, ◌<◌, Bool, true, false, Result, Ok, Err}
+use Rattle.std.specs.Prelude.{◌≡◌, ◌+◌, List, [], ◌∷◌, Bool, true, false, Result, Ok, Err}
 use Rattle.kms_host.specs.History.{History}
-use Rattle.kms_host.specs.Store.{failed_store_calls}
+use Rattle.kms_host.specs.Store.{store_call_failed, failed_store_calls}
+use Rattle.kms_host.specs.declared.call.Call.{Call}
 use Rattle.kms_journal.specs.declared.fault.CreateFault.{CreateFault}
 use Rattle.kms_journal.specs.declared.fault.CreateFault.TheVariants as creation
 use Rattle.kms_journal.specs.declared.fault.GatherFault.{GatherFault}
@@ -13,9 +14,14 @@ abbrev pub gathered : GatherFault → JournalFault
 gathered gathering.StoreFault = opening.StoreFault
 gathered gathering.NoMemory = opening.NoMemory
 
--- A call of the store failed in between, or none did.
+-- the newest call is one of the store, and it failed
+abbrev pub is_newest_failed : List Call → Bool
+is_newest_failed [] = false
+is_newest_failed (c ∷ calls) = store_call_failed c
+
+-- The newest call is one of the store that failed, and none before it did in between. Or none did at all.
 abbrev pub Fails : Bool → History → History → Type 0
-Fails true was now = failed_store_calls was.calls < failed_store_calls now.calls
+Fails true was now = (is_newest_failed now.calls ≡ true) × (failed_store_calls now.calls ≡ failed_store_calls was.calls + 1)
 Fails false was now = failed_store_calls now.calls ≡ failed_store_calls was.calls
 
 -- the fault of the store is answered

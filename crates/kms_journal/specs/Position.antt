@@ -1,5 +1,5 @@
 -- Where a journal stands in its store.
-use Rattle.std.specs.Prelude.{◌≡◌, ℕ, ◌+◌, length, Some, slice_index, true}
+use Rattle.std.specs.Prelude.{◌≡◌, ℕ, ◌+◌, length, Some, slice_index, Bool, true, false}
 use Rattle.kms_host.specs.Disk.{reads, files}
 use Rattle.kms_host.specs.History.{History}
 use Rattle.kms_host.specs.Store.{IsAttached}
@@ -18,6 +18,8 @@ pub record Position : Type 0 where
   pub start : ℕ
   -- the place of the last commit mark
   pub end : ℕ
+  -- a call of the store failed in one of the journal's calls
+  pub failed : Bool
 
 abbrev pub position_of : Standing → Position
 position_of s = record {
@@ -28,11 +30,12 @@ position_of s = record {
   steps = s.steps;
   start = 50 + length s.snapshot;
   end = s.stop;
+  failed = false;
 }
 
 -- the position of a journal of this header, whose last commit mark stands at this place
-abbrev pub position_at : Header → ℕ → Position
-position_at header end = record {
+abbrev pub position_at : Header → ℕ → Bool → Position
+position_at header end failed = record {
   file = header.file;
   generation = header.generation;
   tag = header.tag;
@@ -40,7 +43,13 @@ position_at header end = record {
   steps = header.steps;
   start = 50 + header.snapshot;
   end = end;
+  failed = failed;
 }
+
+-- the position after a call of the journal in which a call of the store failed, or none did
+abbrev pub failed_if : Bool → Position → Position
+failed_if true p = record p { failed = true }
+failed_if false p = p
 
 -- The store stands for this, and the journal stands at its end: the last commit mark is the file's last byte, and clear.
 pub record IsPlaced (position : Position) (h : History) (s : Standing) : Type 0 where

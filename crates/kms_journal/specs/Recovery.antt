@@ -6,7 +6,7 @@ use Rattle.kms_host.specs.Moment.{Throughout}
 use Rattle.kms_host.specs.Store.{IsAttached, others, syncs}
 use Rattle.kms_journal.specs.Answers.{chain_of}
 use Rattle.kms_journal.specs.Current.{IsTold}
-use Rattle.kms_journal.specs.Device.{IsQuietStore, IsUntouched}
+use Rattle.kms_journal.specs.Device.{IsQuiet, IsQuietStore, IsUntouched}
 use Rattle.kms_journal.specs.Position.{Position, position_of, position_at, IsPlaced}
 use Rattle.kms_journal.specs.Standing.{Standing, standing, standing_of}
 use Rattle.kms_journal.specs.declared.fault.JournalFault.{JournalFault}
@@ -24,9 +24,10 @@ pub record KeepsStanding (was h : History) : Type 0 where
   pub syncs : syncs h.calls ≤ syncs was.calls + 2
 
 -- What each answer says of the files as they read at first. A journal comes where they stand for a store that is
--- whole, no store where they stand for none, and damage where the records up to its place are the last whole ones.
+-- whole, no store where they stand for none, and damage where the records up to its place are the last whole ones. With a
+-- journal nothing is pending on the current file, whatever was pending before.
 abbrev pub IsOpening : Result Position JournalFault → History → History → Type 0
-IsOpening (Ok journal) was now = (s : Standing) × (standing_of (files was) ≡ Some s) × IsPlaced journal now s × (IsQuietStore was → IsQuietStore now)
+IsOpening (Ok journal) was now = (s : Standing) × (standing_of (files was) ≡ Some s) × IsPlaced journal now s × (IsQuietStore was → IsQuietStore now) × IsQuiet s.file now
 IsOpening (Err NoStore) was now = (standing_of (files was) ≡ None) × IsUntouched was now
 IsOpening (Err (Damaged place chain)) was now = (s : Standing) × (standing_of (files was) ≡ Some s) × (s.is_whole ≡ false)
     × (place ≡ Body s.file s.stop) × (chain ≡ chain_of s) × IsUntouched was now
@@ -57,10 +58,11 @@ pub record Repairs {T E : Type 0} (result : Result T E) (s : Standing) (was now 
   pub throughout : Throughout (HasStanding s was) was now
   pub placed : OnOk result (IsPlaced (position_of s) now s)
   pub quiet : OnOk result (IsQuietStore was → IsQuietStore now)
+  pub rests : OnOk result (IsQuiet s.file now)
 
 -- what is found of the current file's end: the last commit mark, or damage
 abbrev pub IsChecked : Current → List ℕ → Result ℕ JournalFault → Type 0
-IsChecked c bytes (Ok end) = (s : Standing) × (standing c.header.file bytes ≡ Some s) × (s.is_whole ≡ true) × (position_at c.header end ≡ position_of s)
+IsChecked c bytes (Ok end) = (s : Standing) × (standing c.header.file bytes ≡ Some s) × (s.is_whole ≡ true) × (position_at c.header end false ≡ position_of s)
 IsChecked c bytes (Err NoStore) = ⊥
 IsChecked c bytes (Err (Damaged place chain)) = (s : Standing) × (standing c.header.file bytes ≡ Some s) × (s.is_whole ≡ false)
     × (place ≡ Body s.file s.stop) × (chain ≡ chain_of s)

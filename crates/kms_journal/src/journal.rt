@@ -1,16 +1,17 @@
 // An opened store, and how it grows.
-ghost use Rattle.std.specs.Prelude.{◌≡◌, ◌+◌, ◌-◌, ◌^◌, ◌<◌, ◌≤◌, length, OnOk, OnErr, is_err};
+ghost use Rattle.std.specs.Prelude.{◌≡◌, ◌+◌, ◌-◌, ◌^◌, ◌<◌, ◌≤◌, length, OnOk, OnErr, is_err, false, true};
 ghost use Rattle.kms_host.specs.Faults.{HasCause};
 ghost use Rattle.kms_host.specs.History.{Tells, WhereTold, Stops};
 ghost use Rattle.kms_host.specs.declared.call.Count.TheVariants as counts;
 ghost use Rattle.kms_journal.specs.Commit.{IsFramed, Commits};
 ghost use Rattle.kms_journal.specs.Answers.{Gathers};
 ghost use Rattle.kms_journal.specs.Device.{HasStoreCause};
-ghost use Rattle.kms_journal.specs.Position.{IsPlaced, position_at};
+ghost use Rattle.kms_journal.specs.Position.{IsPlaced, position_at, failed_if};
 ghost use Rattle.kms_journal.specs.Standing.{Standing};
 ghost use Rattle.kms_journal.specs.declared.fault.JournalFault.TheVariants as faults;
 ghost use Rattle.kms_journal.specs.Fault.{Fails, is_failed_opening};
 
+use crate::fault::GatherFault;
 use crate::gather::read_chain;
 use crate::header::{Current, Header};
 use crate::through::write_through;
@@ -22,12 +23,14 @@ use std::marker::Model;
 /// How many bytes are read at once, at most.
 pub const ROOM: usize = 65_536;
 
-/// An opened store: its current file's header, the place of that file's last commit mark, and the room for reading.
+/// An opened store: its current file's header, the place of that file's last commit mark, the room for reading, and
+/// whether a call of the store failed in one of the journal's calls. From then on nothing is written.
 #[derive(Drop)]
 pub struct Journal {
     header: Header,
     end: u64,
     room: Vec<u8>,
+    failed: bool,
 }
 
 impl Model for Journal {
@@ -36,7 +39,7 @@ impl Model for Journal {
 
     ghost Value = { Position };
 
-    ghost view = { λ j. position_at j.header j.end };
+    ghost view = { λ j. position_at j.header j.end j.failed };
 
     ghost invariant = { λ j. (j.header.file < 2) × (50 + j.header.snapshot ≤ j.end) × (j.end + 1 < 2 ^ 62) × (length j.room.items ≡ 65536) };
 }
@@ -48,9 +51,14 @@ impl Journal {
         requires order { 50 + header.snapshot ≤ end }
         requires most { end + 1 < 2 ^ 62 }
         requires room { length room.items ≡ 65536 }
-        ensures { result ≡ position_at header end }
+        ensures { result ≡ position_at header end false }
     {
-        Journal { header, end, room }
+        Journal {
+            header,
+            end,
+            room,
+            failed: false,
+        }
     }
 
     /// The generation of the current file, at least 1.
@@ -73,7 +81,7 @@ impl Journal {
         requires { WhereTold (H.history host.old) (λ h. (s : Standing) × IsPlaced self.old h s) }
         ensures told { Tells (H.history host.old) (H.history host.new) (λ was now. (s : Standing)
             → IsPlaced self.old was s → Gathers s result was now) }
-        ensures stays { self.new ≡ self.old }
+        ensures position { self.new ≡ failed_if (is_failed_opening result) self.old }
         ensures cause { HasStoreCause faults.StoreFault (H.faults host.old) (H.faults host.new) result }
         ensures failed { Tells (H.history host.old) (H.history host.new) (Fails (is_failed_opening result)) }
         ensures stops { Stops (H.wanted host.old) (H.wanted host.new) (H.history host.old) (H.history host.new) }
@@ -82,26 +90,39 @@ impl Journal {
             header: self.header,
             size: self.end + 1,
         };
-        Ok(read_chain(alloc, host, &current, &mut self.room)?)
+        match read_chain(alloc, host, &current, &mut self.room) {
+            Ok(chain) => Ok(chain),
+            Err(GatherFault::NoMemory) => Err(JournalFault::NoMemory),
+            Err(GatherFault::StoreFault) => {
+                self.failed = true;
+                Err(JournalFault::StoreFault)
+            }
+        }
     }
 
     /// Adds a record. `framed` is its length in 4 bytes, big-endian, its bytes, and a clear commit mark, a 0. It is
     /// written behind the last commit mark and synced, and then that commit mark is set by a write of its own and
-    /// synced. From an Ok on the record is on the disk. A fault is answered exactly where a call on the store's files
-    /// failed, and the store has the record or hasn't then: open it anew.
+    /// synced.
+    ///
+    /// From an Ok on nothing is pending on the current file, and if nothing was pending on the other one before the
+    /// commit, each crash image has the record. A fault is answered exactly where a call on the store's files failed. The
+    /// journal has failed then, and the store has the record or hasn't: open it anew.
     pub fn commit<H: Host>(&mut self, host: &mut H, framed: &[u8]) -> Result<(), StoreFault>
+        requires working { self.old.failed ≡ false }
         requires framed { IsFramed framed.now }
         requires placed { WhereTold (H.history host.old) (λ h. (s : Standing) × IsPlaced self.old h s) }
         ensures told { Tells (H.history host.old) (H.history host.new) (λ was now. (s : Standing)
             → IsPlaced self.old was s → Commits self.old self.new framed.now result s was now) }
         ensures moved { OnOk result (self.new ≡ record self.old { end = self.old.end + length framed.now }) }
-        ensures stays { OnErr result (self.new ≡ self.old) }
+        ensures fails { OnErr result (self.new ≡ failed_if true self.old) }
         ensures cause { HasCause counts.Store (H.faults host.old) (H.faults host.new) result }
         ensures failed { Tells (H.history host.old) (H.history host.new) (Fails (is_err result)) }
         ensures stops { Stops (H.wanted host.old) (H.wanted host.new) (H.history host.old) (H.history host.new) }
     {
+        self.failed = true;
         write_through(host, self.header.file, self.end + 1, framed)?;
         write_through(host, self.header.file, self.end, &[1])?;
+        self.failed = false;
         self.end += framed.len() as u64;
         Ok(())
     }

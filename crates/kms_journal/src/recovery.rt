@@ -1,5 +1,5 @@
 // Opening a store that a stop may have left in the middle of anything.
-ghost use Rattle.std.specs.Prelude.{◌≡◌, ◌+◌, ◌<◌, ◌≤◌, ◌^◌, length, IfOk, is_err};
+ghost use Rattle.std.specs.Prelude.{◌≡◌, ◌+◌, ◌<◌, ◌≤◌, ◌^◌, length, IfOk, is_err, false};
 ghost use Rattle.kms_host.specs.Faults.{HasCause};
 ghost use Rattle.kms_host.specs.History.{Tells, WhereTold, Stops};
 ghost use Rattle.kms_host.specs.Store.{IsAttached};
@@ -98,6 +98,7 @@ fn find_end<H: Host>(
 /// store's files failed.
 pub fn recover<H: Host>(alloc: Global, host: &mut H) -> Result<Journal, JournalFault>
     requires { WhereTold (H.history host.old) IsAttached }
+    ensures working { IfOk result (λ journal. journal.failed ≡ false) }
     ensures told { Tells (H.history host.old) (H.history host.new) (Opens result) }
     ensures cause { HasStoreCause faults.StoreFault (H.faults host.old) (H.faults host.new) result }
     ensures failed { Tells (H.history host.old) (H.history host.new) (Fails (is_failed_opening result)) }

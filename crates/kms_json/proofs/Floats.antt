@@ -3,7 +3,6 @@ use Rattle.std.proofs.Common.{◌≡◌, ℕ, List, false, Option, Some, None, r
 use Rattle.serde_json.specs.Data.{Members}
 use Rattle.serde_json.specs.Written.{has_float, members_have_float}
 use Rattle.kms_world.specs.declared.answer.Link.{Link}
-use Rattle.kms_world.specs.declared.answer.Link.TheVariants.{Secret}
 use Rattle.kms_world.specs.declared.id.Id.{Id}
 use Rattle.kms_world.specs.declared.payload.Media.{Media}
 use Rattle.kms_world.specs.declared.secret.SecretRow.{SecretRow}
@@ -28,7 +27,7 @@ no_float_types None rest h = h
 no_float_types (Some media) rest h = h
 
 pub no_float_link : (endpoint : List ℕ) (link : Link) (id : Id) → has_float (link_data endpoint link id) ≡ false
-no_float_link endpoint Secret id = refl
+no_float_link endpoint link id = refl
 
 pub no_float_secret : (endpoint : List ℕ) (row : SecretRow) → has_float (secret_data endpoint row) ≡ false
 no_float_secret endpoint row =

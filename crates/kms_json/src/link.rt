@@ -1,32 +1,57 @@
 // Links as bodies.
-ghost use Rattle.std.specs.Prelude.{◌≡◌, codes, IfOk};
-ghost use Rattle.serde_json.specs.Data.{object, member, no_members, string};
+ghost use Rattle.std.specs.Prelude.{◌≡◌, IfOk};
 ghost use Rattle.serde_json.specs.View.{view};
 ghost use Rattle.serde_json.specs.Written.{compact_text};
-ghost use Rattle.kms_json.specs.Link.{link_data};
+ghost use Rattle.kms_json.specs.Link.{key_of, kind_of, link_data, part_of};
 
 use crate::values::body_of;
 use kms_text::{Kind, ref_text};
 use kms_world::{Bytes, Id, Link, NoMemory};
-use serde_json::{Value, json};
-use std::alloc::{AllocError, Global};
+use serde_json::{Map, Value};
+use std::alloc::Global;
 
-fn secret_link(alloc: Global, link: &str) -> Result<Value, AllocError>
-    ensures { IfOk result
-        (λ value. view value ≡ object (member (codes "secret_ref") (string link.now) no_members)) }
+fn kind(link: Link) -> Kind
+    ensures { result ≡ kind_of link }
 {
-    json!(in alloc; {"secret_ref": link})
+    match link {
+        Link::Secret | Link::Metadata | Link::SecretAcl => Kind::Secret,
+        Link::Container | Link::ContainerAcl => Kind::Container,
+        Link::Order => Kind::Order,
+    }
+}
+
+fn key(link: Link) -> &'static str
+    ensures { result.now ≡ key_of link }
+{
+    match link {
+        Link::Secret => "secret_ref",
+        Link::Metadata => "metadata_ref",
+        Link::SecretAcl | Link::ContainerAcl => "acl_ref",
+        Link::Container => "container_ref",
+        Link::Order => "order_ref",
+    }
+}
+
+fn part(link: Link) -> &'static str
+    ensures { result.now ≡ part_of link }
+{
+    match link {
+        Link::Secret | Link::Container | Link::Order => "",
+        Link::Metadata => "/metadata",
+        Link::SecretAcl | Link::ContainerAcl => "/acl",
+    }
 }
 
 fn link_value(alloc: Global, endpoint: &str, link: Link, id: Id) -> Result<Value, NoMemory>
     ensures { IfOk result (λ value. view value ≡ link_data endpoint.now link id) }
 {
-    match link {
-        Link::Secret => {
-            let text = ref_text(alloc, endpoint, Kind::Secret, id)?;
-            Ok(secret_link(alloc, text.as_str())?)
-        }
-    }
+    let object = ref_text(alloc, endpoint, kind(link), id)?;
+    let mut text = String::from_str(alloc, object.as_str())?;
+    text.push_str(part(link))?;
+    let mut members = Map::new(alloc);
+    let key = String::from_str(alloc, key(link))?;
+    members.insert(key, Value::String(text))?;
+    Ok(Value::Object(members))
 }
 
 // The object of a link, as `{"secret_ref":".."}`.

@@ -54,25 +54,43 @@ fn refusals_have_their_bodies(rt: HostRuntime) {
 }
 
 #[test]
-fn links_are_escaped(rt: HostRuntime) {
+fn links_are_shown(rt: HostRuntime) {
     let table = [
         (
             ENDPOINT,
+            Link::Secret,
             "{\"secret_ref\":\"http://k/v1/secrets/01234567-89ab-8cde-8000-000000000000\"}",
         ),
         (
             "http://k/\"\\v1",
+            Link::Secret,
             "{\"secret_ref\":\"http://k/\\\"\\\\v1/secrets/01234567-89ab-8cde-8000-000000000000\"}",
         ),
+        (
+            ENDPOINT,
+            Link::Metadata,
+            "{\"metadata_ref\":\"http://k/v1/secrets/01234567-89ab-8cde-8000-000000000000/metadata\"}",
+        ),
+        (
+            ENDPOINT,
+            Link::ContainerAcl,
+            "{\"acl_ref\":\"http://k/v1/containers/01234567-89ab-8cde-8000-000000000000/acl\"}",
+        ),
+        (
+            ENDPOINT,
+            Link::Order,
+            "{\"order_ref\":\"http://k/v1/orders/01234567-89ab-8cde-8000-000000000000\"}",
+        ),
     ];
-    for (endpoint, body) in table {
+    for (endpoint, link, body) in table {
         let made = Answer::Link {
             status: 201,
-            link: Link::Secret,
+            link,
             id: FIRST,
         };
         assert!(rt; has_body(rt.alloc(), &made, endpoint, body));
     }
+    assert!(rt; has_body(rt.alloc(), &Answer::Empty(204), ENDPOINT, ""));
 }
 
 fn plain_answer(alloc: Global, project: Name, creator: Name) -> Result<Answer, NoMemory>

@@ -1,4 +1,4 @@
 pub mod Ask
-pub mod AskSecret
-pub mod Plain
+pub mod Done
 pub mod Run
+pub mod Secrets

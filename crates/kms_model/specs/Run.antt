@@ -7,8 +7,8 @@ use Rattle.kms_model.specs.Ask.{answer_to, state_after, stores}
 use Rattle.kms_model.specs.declared.event.Event.{Event}
 use Rattle.kms_model.specs.declared.event.Mark.{Mark}
 use Rattle.kms_model.specs.declared.event.Mark.TheVariants.{Unmarked, Memory}
-use Rattle.kms_model.specs.declared.event.Request.{Request}
-use Rattle.kms_model.specs.declared.event.Request.TheVariants.{Asking, Refusing}
+use Rattle.kms_world.specs.declared.operation.Request.{Request}
+use Rattle.kms_world.specs.declared.operation.Request.TheVariants.{Asking, Refusing}
 
 abbrev pub asked_answer : State → Request → ℕ → Answer
 asked_answer s (Asking caller op) t = answer_to s caller op t

@@ -1,14 +1,5 @@
 // What comes to a key manager, one after the other.
-use kms_world::{Caller, Op, Refusal};
-
-/// What a message asks for: an operation of a caller, or it was refused before one was known.
-#[derive(Drop, Debug)]
-pub enum Request {
-    /// an operation of a caller
-    Asking(Caller, Op),
-    /// refused before a caller was known
-    Refusing(Refusal),
-}
+use kms_world::Request;
 
 /// A request and the time at which it is answered, in seconds since 1970.
 #[derive(Drop, Debug)]

@@ -1,10 +1,8 @@
-//! The plain key manager: what the program does, without journal, keys, indexes and buffers.
+//! The plain key manager: what the program does, without journal, keys, indexes and buffers. It is definitions; the
+//! engine is proved equal to them.
 #![tactic(auto)]
 
 mod event;
-mod plain;
-#[cfg(test)]
-mod tests;
+pub mod laws;
 
-pub use event::{Event, Mark, Request};
-pub use plain::Plain;
+pub use event::{Event, Mark};

@@ -1,5 +1,4 @@
 pub mod Acl
-pub mod Checked
 pub mod Laws
 pub mod Limits
 pub mod Policy

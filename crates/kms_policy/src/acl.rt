@@ -1,7 +1,7 @@
 // Bodies of access lists.
 ghost use Rattle.std.specs.Prelude.{◌≡◌, ◌≤◌, length, true, OnOk, IfOk, IfErr};
 ghost use Rattle.kms_policy.specs.Acl.{are_users, without_repeats, change_of};
-ghost use Rattle.kms_policy.specs.Checked.{IsUnlessNoMemory};
+ghost use Rattle.kms_world.specs.Checked.{IsUnlessNoMemory};
 ghost use Rattle.kms_policy.specs.Users.{TakesUser, RefusesUsers, is_taken};
 
 use crate::names::is_among;

@@ -1,6 +1,6 @@
 // Bodies of quotas.
 ghost use Rattle.std.specs.Prelude.{◌≡◌, true, false, IfOk, IfErr};
-ghost use Rattle.kms_policy.specs.Checked.{checked};
+ghost use Rattle.kms_world.specs.Checked.{checked};
 ghost use Rattle.kms_policy.specs.Limits.{is_limit, limits_of};
 
 use kms_world::{CheckFault, Field, QuotaBody, Refusal};

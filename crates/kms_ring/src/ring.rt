@@ -1,6 +1,6 @@
 // Master keys.
 ghost use Rattle.std.specs.Prelude.{◌≡◌, MatchOption, IfOk, IfErr, true, false};
-ghost use Rattle.kms_ring.specs.KeyFile.{IsKeyFile, IsBadLine};
+ghost use Rattle.kms_ring.specs.KeyFile.{AreKeys, IsKeyFile, IsBadLine};
 ghost use Rattle.kms_ring.specs.Ring.{IsUnwrapped, IsUnderNone, IsUnderFirst, IsWrapped};
 
 use crate::BadLine;
@@ -21,11 +21,11 @@ impl Model for Ring {
 
     ghost Value = { List (List ℕ) };
 
-    ghost use Rattle.kms_ring.specs.RingFields.{masters, AreSome};
+    ghost use Rattle.kms_ring.specs.RingFields.{masters, AreMasters};
 
     ghost view = { masters };
 
-    ghost invariant = { AreSome };
+    ghost invariant = { AreMasters };
 }
 
 impl Ring {
@@ -50,14 +50,16 @@ impl Ring {
     /// A project key as it is stored: the token under the first key of the project key's text, of the moment in seconds and
     /// the initialization vector.
     pub fn wrap(&self, moment: u64, iv: [u8; 16], project_key: &[u8; 32]) -> [u8; 140]
-        ensures { IsWrapped self.now moment iv project_key.now result }
+        ensures wrapped { IsWrapped self.now moment iv project_key.now result }
+        ensures keys { AreKeys self.now }
     {
         wrap_key(&self.keys.as_slice()[0], moment, iv, project_key)
     }
 
     /// The project key whose wrapped form this is, under the first key that opens it. `None` where none does.
     pub fn unwrap(&self, wrapped: &[u8; 140]) -> Option<[u8; 32]>
-        ensures { MatchOption result (IsUnderNone self.now wrapped.now) (λ key. IsUnwrapped self.now wrapped.now key) }
+        ensures key { MatchOption result (IsUnderNone self.now wrapped.now) (λ key. IsUnwrapped self.now wrapped.now key) }
+        ensures keys { AreKeys self.now }
     {
         for master in self.keys.as_slice() {
             if let Some(key) = unwrap_key(master, wrapped) {

@@ -7,7 +7,7 @@ use Rattle.kms_host.specs.Line.{sent, OnlyGives}
 use Rattle.kms_host.specs.Moment.{then_calls}
 use Rattle.kms_host.specs.Store.{is_attached, syncs}
 use Rattle.kms_host.specs.declared.call.Call.{Call}
-use Rattle.kms_host.specs.declared.call.Call.TheVariants.{Text, Attached, Took, Gave, Shut, OnFile, Told, Drew}
+use Rattle.kms_host.specs.declared.call.Call.TheVariants.{Text, Listened, Came, Attached, Took, Gave, Shut, OnFile, Told, Drew}
 use Rattle.kms_host.proofs.Moments.{then_calls-append}
 use Rattle.kms_journal.specs.Device.{IsQuietStore}
 use Rattle.kms_journal.specs.Standing.{standing_of}
@@ -57,6 +57,8 @@ same_told h t = record { disk = λ f. refl; attached = refl }
 pub same_gave_all : (line : ℕ) (h : History) (gives : List Call) → OnlyGives line gives → Same h (then_calls h gives)
 same_gave_all line h [] only = record { disk = λ f. refl; attached = refl }
 same_gave_all line h (Text name room bytes ∷ gives) only = absurd only
+same_gave_all line h (Listened address done ∷ gives) only = absurd only
+same_gave_all line h (Came next ∷ gives) only = absurd only
 same_gave_all line h (Attached name done ∷ gives) only = absurd only
 same_gave_all line h (Took l room bytes ∷ gives) only = absurd only
 same_gave_all line h (Gave l piece went ∷ gives) only =

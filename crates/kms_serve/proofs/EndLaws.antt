@@ -4,7 +4,7 @@ use Rattle.std.specs.Prelude.{◌||◌}
 use Rattle.kms_host.specs.Line.{taken, sent, at_end, failed_on}
 use Rattle.kms_host.specs.Moment.{AtEach}
 use Rattle.kms_host.specs.declared.call.Call.{Call}
-use Rattle.kms_host.specs.declared.call.Call.TheVariants.{Text, Attached, Took, Gave, Shut, OnFile, Told, Drew}
+use Rattle.kms_host.specs.declared.call.Call.TheVariants.{Text, Listened, Came, Attached, Took, Gave, Shut, OnFile, Told, Drew}
 use Rattle.kms_host.proofs.Moments.{at_moment}
 use Rattle.kms_model.specs.declared.event.Mark.{Mark}
 use Rattle.kms_http.specs.Stream.{after}
@@ -67,6 +67,8 @@ failed_goes endpoint b marks (Gave l piece None ∷ calls) each fails sound give
     absurd (omega (arith, next.some, long, length-append (sent l calls) (piece ++ next.rest), length-append piece next.rest))
 failed_goes endpoint b marks (Shut l ∷ calls) each fails sound given = absurd fails
 failed_goes endpoint b marks (Text name room bytes ∷ calls) each fails sound given = absurd fails
+failed_goes endpoint b marks (Listened address done ∷ calls) each fails sound given = absurd fails
+failed_goes endpoint b marks (Came line ∷ calls) each fails sound given = absurd fails
 failed_goes endpoint b marks (Attached name done ∷ calls) each fails sound given = absurd fails
 failed_goes endpoint b marks (OnFile file c ∷ calls) each fails sound given = absurd fails
 failed_goes endpoint b marks (Told t ∷ calls) each fails sound given = absurd fails
@@ -87,6 +89,8 @@ clean_unfinished calls goes unended (inr over) = going_over goes.0 (sym goes.1 �
 fails_failed : (calls : List Call) → EndsFailed 0 calls → failed_on 0 calls ≡ false → ⊥
 fails_failed [] fails sound = fails
 fails_failed (Text name room bytes ∷ calls) fails sound = fails
+fails_failed (Listened address done ∷ calls) fails sound = fails
+fails_failed (Came line ∷ calls) fails sound = fails
 fails_failed (Attached name done ∷ calls) fails sound = fails
 fails_failed (Took l room (Some bytes) ∷ calls) fails sound = fails
 fails_failed (Took l room None ∷ calls) fails sound =
@@ -102,6 +106,8 @@ fails_failed (Drew purpose bytes ∷ calls) fails sound = fails
 fails_shut : (calls : List Call) → EndsFailed 0 calls → EndsShut calls → ⊥
 fails_shut [] fails shut = fails
 fails_shut (Text name room bytes ∷ calls) fails shut = fails
+fails_shut (Listened address done ∷ calls) fails shut = fails
+fails_shut (Came line ∷ calls) fails shut = fails
 fails_shut (Attached name done ∷ calls) fails shut = fails
 fails_shut (Took l room (Some bytes) ∷ calls) fails shut = fails
 fails_shut (Took l room None ∷ calls) fails shut = shut

@@ -3,7 +3,7 @@ use Rattle.std.proofs.Common.{◌≡◌, ℕ, suc, ◌+◌, List, [], ◌∷◌,
 use Rattle.std.specs.Prelude.{◌||◌}
 use Rattle.kms_host.specs.Line.{taken, failed_on, OnlyGives}
 use Rattle.kms_host.specs.declared.call.Call.{Call}
-use Rattle.kms_host.specs.declared.call.Call.TheVariants.{Text, Attached, Took, Gave, Shut, OnFile, Told, Drew}
+use Rattle.kms_host.specs.declared.call.Call.TheVariants.{Text, Listened, Came, Attached, Took, Gave, Shut, OnFile, Told, Drew}
 use Rattle.kms_http.specs.declared.request.Request.{Request}
 use Rattle.kms_http.specs.Stream.{front, After, after, Served, served, served_at}
 use Rattle.kms_http.specs.Stream.Front.{Whole, Bad}
@@ -16,6 +16,8 @@ events-gives line (Took k room bytes ∷ gives) early h = absurd h
 events-gives line (Gave k piece went ∷ gives) early h = events-gives line gives early h.1
 events-gives line (Shut k ∷ gives) early h = absurd h
 events-gives line (Text name room bytes ∷ gives) early h = absurd h
+events-gives line (Listened address done ∷ gives) early h = absurd h
+events-gives line (Came next ∷ gives) early h = absurd h
 events-gives line (Attached name done ∷ gives) early h = absurd h
 events-gives line (OnFile file c ∷ gives) early h = absurd h
 events-gives line (Told t ∷ gives) early h = absurd h

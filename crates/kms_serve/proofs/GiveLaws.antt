@@ -6,7 +6,7 @@ use Rattle.std.proofs.lemmas.Result.{IfOk-from_err}
 use Rattle.kms_host.specs.History.{History, then_call}
 use Rattle.kms_host.specs.Line.{sent, failed_on, OnlyGives, IsOpen}
 use Rattle.kms_host.specs.declared.call.Call.{Call}
-use Rattle.kms_host.specs.declared.call.Call.TheVariants.{Text, Attached, Took, Gave, Shut, OnFile, Told, Drew}
+use Rattle.kms_host.specs.declared.call.Call.TheVariants.{Text, Listened, Came, Attached, Took, Gave, Shut, OnFile, Told, Drew}
 use Rattle.kms_serve.specs.Ends.{EndsFailed}
 use Rattle.kms_serve.specs.Owed.{OnlyLeft, Gives}
 use Rattle.kms_serve.specs.Owing.{on_line}
@@ -56,6 +56,8 @@ only_gives line bytes (Took l room taken ∷ calls) h = absurd h
 only_gives line bytes (Gave l piece went ∷ calls) h = (h.0.of_line, only_gives line bytes calls h.1)
 only_gives line bytes (Shut l ∷ calls) h = absurd h
 only_gives line bytes (Text name room text ∷ calls) h = absurd h
+only_gives line bytes (Listened address done ∷ calls) h = absurd h
+only_gives line bytes (Came next ∷ calls) h = absurd h
 only_gives line bytes (Attached name done ∷ calls) h = absurd h
 only_gives line bytes (OnFile file c ∷ calls) h = absurd h
 only_gives line bytes (Told t ∷ calls) h = absurd h
@@ -73,6 +75,8 @@ left_rest line bytes (Gave l piece (Some n) ∷ calls) h =
 left_rest line bytes (Gave l piece None ∷ calls) h = (piece, h.0.left)
 left_rest line bytes (Shut l ∷ calls) h = absurd h
 left_rest line bytes (Text name room text ∷ calls) h = absurd h
+left_rest line bytes (Listened address done ∷ calls) h = absurd h
+left_rest line bytes (Came next ∷ calls) h = absurd h
 left_rest line bytes (Attached name done ∷ calls) h = absurd h
 left_rest line bytes (OnFile file c ∷ calls) h = absurd h
 left_rest line bytes (Told t ∷ calls) h = absurd h
@@ -106,6 +110,8 @@ sent_on line (Gave l piece (Some n) ∷ gives) h =
 sent_on line (Gave l piece None ∷ gives) h = sent_on line gives h.1
 sent_on line (Shut l ∷ gives) h = absurd h
 sent_on line (Text name room bytes ∷ gives) h = absurd h
+sent_on line (Listened address done ∷ gives) h = absurd h
+sent_on line (Came next ∷ gives) h = absurd h
 sent_on line (Attached name done ∷ gives) h = absurd h
 sent_on line (OnFile file c ∷ gives) h = absurd h
 sent_on line (Told t ∷ gives) h = absurd h
@@ -120,6 +126,8 @@ fails-append line (Gave l piece (Some n) ∷ late) early h = absurd h
 fails-append line (Gave l piece None ∷ late) early h = h
 fails-append line (Shut l ∷ late) early h = absurd h
 fails-append line (Text name room bytes ∷ late) early h = absurd h
+fails-append line (Listened address done ∷ late) early h = absurd h
+fails-append line (Came next ∷ late) early h = absurd h
 fails-append line (Attached name done ∷ late) early h = absurd h
 fails-append line (OnFile file c ∷ late) early h = absurd h
 fails-append line (Told t ∷ late) early h = absurd h

@@ -7,24 +7,26 @@ use Rattle.kms_host.specs.History.{History, then_call, Tells}
 use Rattle.kms_host.specs.Moment.{AtEach, Throughout, Since, then_calls}
 use Rattle.kms_host.specs.Store.{apart_from_files, others, failed_store_calls, IsAttached}
 use Rattle.kms_host.specs.declared.call.Call.{Call}
-use Rattle.kms_host.specs.declared.call.Call.TheVariants.{Text, Attached, Took, Gave, Shut, OnFile, Told, Drew}
+use Rattle.kms_host.specs.declared.call.Call.TheVariants.{Text, Listened, Came, Attached, Took, Gave, Shut, OnFile, Told, Drew}
 use Rattle.kms_host.specs.declared.call.Failed.{Failed}
 use Rattle.kms_host.specs.declared.call.NameFault.{NameFault}
 use Rattle.kms_host.specs.declared.call.NameFault.TheVariants as names
 use Rattle.kms_host.specs.declared.call.Purpose.TheVariants.{Tag}
 use Rattle.kms_host.proofs.DiskLaws.{only_image}
-use Rattle.kms_host.proofs.Moments.{then_calls-append, then_calls-calls, since_told, since_since, since_weaker, since_call, at_map, at_more, at_now}
+use Rattle.kms_host.proofs.Moments.{then_calls-append, then_calls-calls, since_told, since_since, since_weaker, since_call, at_map, at_both, at_more, at_now}
 use Rattle.kms_journal.specs.Answers.{Looks}
 use Rattle.kms_journal.specs.Create.{Creates, IsCreation, IsNoneOrFresh, fresh}
-use Rattle.kms_journal.specs.Device.{IsQuietStore, IsUntouched}
+use Rattle.kms_journal.specs.Device.{IsQuiet, IsQuietStore, IsUntouched}
 use Rattle.kms_journal.specs.Fault.{Fails, is_failed_creation}
 use Rattle.kms_journal.specs.Standing.{standing, standing_of, newer}
 use Rattle.kms_journal.specs.declared.fault.CreateFault.{CreateFault}
 use Rattle.kms_journal.specs.declared.fault.CreateFault.TheVariants as creation
 use Rattle.kms_journal.proofs.CreateLaws.{is_there, is_not_there}
 use Rattle.kms_core.proofs.StandsLaws.{fresh_kept, fresh_counted}
-use Rattle.kms_serve.proofs.StoreCallLaws.{failed-append}
-use Rattle.kms_serve.proofs.ToldLaws.{tells_both}
+use Rattle.kms_serve.proofs.CrashLaws.{quiet_image}
+use Rattle.kms_serve.proofs.StoreCallLaws.{failed-append, none_failed, failed_once, before_each}
+use Rattle.kms_serve.specs.StoreCalls.{store_failed, IsUnfailedBefore}
+use Rattle.kms_host.proofs.ToldLaws.{tells_both}
 use Rattle.kms_serve.specs.Init.{tag_of, DrawsTag, naming_status, creation_status, IsFreshStore, naming, drawing, IsAlone, AreAsBefore, IsNoStore, IsUnderWay, IsInitEnd, Inits}
 use Rattle.kms_serve.specs.declared.status.Status.TheVariants as status
 
@@ -37,6 +39,8 @@ fresh_stands image tag low is = (record { standing = fresh tag; current = is; ke
 apart-append : (x y : List Call) → apart_from_files (x ++ y) ≡ apart_from_files x ++ apart_from_files y
 apart-append [] y = refl
 apart-append (Text name room bytes ∷ x) y = ap (λ (l : List Call). Text name room bytes ∷ l) (apart-append x y)
+apart-append (Listened address done ∷ x) y = ap (λ (l : List Call). Listened address done ∷ l) (apart-append x y)
+apart-append (Came line ∷ x) y = ap (λ (l : List Call). Came line ∷ l) (apart-append x y)
 apart-append (Attached name done ∷ x) y = ap (λ (l : List Call). Attached name done ∷ l) (apart-append x y)
 apart-append (Took l room bytes ∷ x) y = ap (λ (z : List Call). Took l room bytes ∷ z) (apart-append x y)
 apart-append (Gave l piece went ∷ x) y = ap (λ (z : List Call). Gave l piece went ∷ z) (apart-append x y)
@@ -60,7 +64,7 @@ apart_more mid y x e = apart-append y x ∙ ap (λ (l : List Call). l ++ apart_f
 fault_between : (mid : History) (y x : List Call) → Fails true mid (then_calls mid y) → 0 < failed_store_calls (y ++ x)
 fault_between mid y x fails =
     let count : failed_store_calls (then_calls mid y).calls ≡ failed_store_calls y + failed_store_calls mid.calls = ap failed_store_calls (then_calls-calls mid y) ∙ failed-append y mid.calls in
-    omega (arith, fails, count, failed-append y x)
+    omega (arith, fails.1, count, failed-append y x)
 
 -- none did
 faultless_more : (mid : History) (y x : List Call) → Fails false mid (then_calls mid y) → failed_store_calls x ≡ 0 → failed_store_calls (y ++ x) ≡ 0
@@ -102,41 +106,44 @@ pub record Reached (store : List ℕ) (apart : List Call) (was : History) (calls
   pub apart_is : apart_from_files calls ≡ apart
   pub same : AreAsBefore was calls
 
-still : (store : List ℕ) (was : History) (calls : List Call) → IsAlone store (apart_from_files calls) → AreAsBefore was calls → IsUnderWay store was calls
-still store was calls alone same = record {
+still : (store : List ℕ) (was : History) (calls : List Call) → IsAlone store was (apart_from_files calls) → IsUnfailedBefore calls → AreAsBefore was calls → IsUnderWay store was calls
+still store was calls alone unfailed same = record {
   alone = alone;
+  unfailed = unfailed;
   images = λ quiet image is. inl (same_standing was (then_calls was calls) same quiet image is);
   kept = λ s. same;
 }
 
 named : (store : List ℕ) (done : Result (Unit {0}) NameFault) (was : History) (calls : List Call) → calls ≡ Attached store done ∷ [] → Reached store (naming store done) was calls
 named store done was calls is = subst (Reached store (naming store done) was) (sym is) (record {
-  each = (still store was (Attached store done ∷ []) (inr (inl (done, refl))) (λ f. refl), still store was [] (inl refl) (λ f. refl));
+  each = (still store was (Attached store done ∷ []) (inr (inl (done, refl))) refl (λ f. refl), still store was [] (inl refl) refl (λ f. refl));
   apart_is = refl;
   same = λ f. refl;
 })
 
 -- the files were read
-looked : (store : List ℕ) (apart : List Call) (was : History) (x y : List Call) → IsAlone store apart → Reached store apart was x
+looked : (store : List ℕ) (apart : List Call) (was : History) (x y : List Call) → IsAlone store was apart → store_failed x ≡ false → IsUnfailedBefore y → Reached store apart was x
     → AtEach (λ z. IsUntouched (then_calls was x) (then_calls (then_calls was x) z)) y → Reached store apart was (y ++ x)
-looked store apart was x y alone r each =
+looked store apart was x y alone sound before r each =
     let mid = then_calls was x in
     let apart_at : (z : List Call) → IsUntouched mid (then_calls mid z) → apart_from_files (z ++ x) ≡ apart = λ z u. apart_more mid z x u.others ∙ r.apart_is in
     let same_at : (z : List Call) → IsUntouched mid (then_calls mid z) → AreAsBefore was (z ++ x) = λ z u f. ap (disk f) (then_calls-append was z x) ∙ u.disk f ∙ r.same f in
     let last : IsUntouched mid (then_calls mid y) = at_now (λ z. IsUntouched mid (then_calls mid z)) y each in
     record {
       each = at_more (IsUnderWay store was) y x r.each
-          (at_map (λ z. IsUntouched mid (then_calls mid z)) (λ z. IsUnderWay store was (z ++ x)) y
-          (λ z u. still store was (z ++ x) (subst (IsAlone store) (sym (apart_at z u)) alone) (same_at z u)) each);
+          (at_map (λ z. IsUntouched mid (then_calls mid z) × IsUnfailedBefore (z ++ x)) (λ z. IsUnderWay store was (z ++ x)) y
+          (λ z k. still store was (z ++ x) (subst (IsAlone store was) (sym (apart_at z k.0)) alone) k.1 (same_at z k.0))
+          (at_both (λ z. IsUntouched mid (then_calls mid z)) (λ z. IsUnfailedBefore (z ++ x)) y each (before_each y x before sound)));
       apart_is = apart_at y last;
       same = same_at y last;
     }
 
 -- a tag was drawn, or could not be
-drew : (store : List ℕ) (bytes : Option (List ℕ)) (was : History) (x : List Call) → Reached store (naming store (Ok tt)) was x → Reached store (drawing store bytes) was (Drew Tag bytes ∷ x)
-drew store bytes was x r =
+drew : (store : List ℕ) (bytes : Option (List ℕ)) (was : History) (x : List Call) → IsNoStore was → store_failed x ≡ false → Reached store (naming store (Ok tt)) was x
+    → Reached store (drawing store bytes) was (Drew Tag bytes ∷ x)
+drew store bytes was x none sound r =
     let apart : apart_from_files (Drew Tag bytes ∷ x) ≡ drawing store bytes = ap (λ (l : List Call). Drew Tag bytes ∷ l) r.apart_is in
-    record { each = (still store was (Drew Tag bytes ∷ x) (inr (inr (bytes, apart))) r.same, r.each); apart_is = apart; same = r.same }
+    record { each = (still store was (Drew Tag bytes ∷ x) (inr (inr (none, (bytes, apart)))) sound r.same, r.each); apart_is = apart; same = r.same }
 
 -- There is no store, and its tag was drawn.
 pub record IsReady (store : List ℕ) (tag : ℕ) (was : History) (calls : List Call) : Type 0 where
@@ -149,14 +156,15 @@ pub record IsReady (store : List ℕ) (tag : ℕ) (was : History) (calls : List 
 
 -- while it is created
 creating : (store : List ℕ) (tag : ℕ) (was : History) (x : List Call) → tag < 2 ^ 60 → (ready : IsReady store tag was x) → (z : List Call)
-    → IsNoneOrFresh tag (then_calls was x) (then_calls (then_calls was x) z) → IsUnderWay store was (z ++ x)
-creating store tag was x low ready z n =
+    → IsNoneOrFresh tag (then_calls was x) (then_calls (then_calls was x) z) → IsUnfailedBefore (z ++ x) → IsUnderWay store was (z ++ x)
+creating store tag was x low ready z n unfailed =
     let mid = then_calls was x in
     let r = ready.reached in
     let apart : apart_from_files (z ++ x) ≡ drawing store (Some ready.bytes) = apart_more mid z x n.others ∙ r.apart_is in
     let before : standing_of (files mid) ≡ standing_of (files was) = ap standing_of (same_files was x r.same) in
     record {
-      alone = inr (inr (Some ready.bytes, apart));
+      alone = inr (inr (ready.none, (Some ready.bytes, apart)));
+      unfailed = unfailed;
       images = λ quiet image is. elim (n.images (still_quiet was x r.same quiet) image (subst (λ (h : History). IsImage h image) (then_calls-append was z x) is)) [
         | inl same ↦ inl (same ∙ before)
         | inr made ↦ inr (ready.none, (ready.bytes, ready.eight, apart, subst (IsFreshStore image) ready.tag_is (fresh_stands image tag low made.1)))
@@ -177,15 +185,15 @@ not_named store fault was calls is = record { each = (named store (Err fault) wa
     by_fault names.Failed l e = subst (λ (k : List Call). 0 < failed_store_calls k) (sym e) (lit< tt)
     by_fault names.NoMemory l e = e
 
-alone_named : (store : List ℕ) → IsAlone store (naming store (Ok tt))
-alone_named store = inr (inl (Ok tt, refl))
+alone_named : (store : List ℕ) (was : History) → IsAlone store was (naming store (Ok tt))
+alone_named store was = inr (inl (Ok tt, refl))
 
 pub not_looked : {a b c : Option History} {E : Type 0} {e : E} (store : List ℕ) → Tells a b (λ was now. now ≡ then_call was (Attached store (Ok tt)))
     → Tells b c (Looks {E = E} (Err e)) → Tells b c (Fails true) → Since a c (Inits store status.StoreFault)
 not_looked {E = E} {e = e} store first look fails =
     since_since (Inits store status.StoreFault) (since_call first) (spanned (λ was h. IsUntouched was h) (tells_both look fails) (λ was now l. l.0.throughout))
     (λ was x y is l. record {
-      each = (looked store (naming store (Ok tt)) was x y (alone_named store) (named store (Ok tt) was x is) l.0).each;
+      each = (looked store (naming store (Ok tt)) was x y (alone_named store was) (ap store_failed is) (failed_once (then_calls was x) y true l.1.1) (named store (Ok tt) was x is) l.0).each;
       end = fault_between (then_calls was x) y x l.1.1;
       faultless = λ other. absurd (other refl);
     })
@@ -203,7 +211,7 @@ since_looked {E = E} found store first look fails =
     (λ was x y is l.
     let r = named store (Ok tt) was x is in
     record {
-      reached = looked store (naming store (Ok tt)) was x y (alone_named store) r l.0;
+      reached = looked store (naming store (Ok tt)) was x y (alone_named store was) (ap store_failed is) (failed_once (then_calls was x) y false l.1.1) r l.0;
       found_is = l.1.0.answer ∙ ap (λ (f : List ℕ × List ℕ). is_some (standing_of f)) (same_files was x r.same);
       faultless = faultless_more (then_calls was x) y x l.1.1 (ap failed_store_calls is);
     })
@@ -223,10 +231,11 @@ pub not_drawn : {a c d : Option History} (found : Bool) (store : List ℕ) → f
 not_drawn found store is p draw =
     since_since (Inits store status.DrawFault) p (since_call draw)
     (λ was x y k e. subst (λ (z : List Call). Inits store status.DrawFault was (z ++ x)) (sym e)
-    (let d = drew store None was x k.reached in
+    (let none = is_not_there (standing_of (files was)) (sym k.found_is ∙ is) in
+    let d = drew store None was x none (none_failed x k.faultless) k.reached in
     record {
       each = d.each;
-      end = record { none = is_not_there (standing_of (files was)) (sym k.found_is ∙ is); failed = d.apart_is; kept = d.same };
+      end = record { none = none; failed = d.apart_is; kept = d.same };
       faultless = λ other. k.faultless;
     }))
 
@@ -242,7 +251,7 @@ since_drawn found store tag is p draw =
       bytes = d.0;
       eight = d.1;
       tag_is = d.2;
-      reached = drew store (Some d.0) was x k.reached;
+      reached = drew store (Some d.0) was x (is_not_there (standing_of (files was)) (sym k.found_is ∙ is)) (none_failed x k.faultless) k.reached;
       faultless = k.faultless;
     }))
 
@@ -253,6 +262,7 @@ creation_ends : (store : List ℕ) (tag : ℕ) (was : History) (x y : List Call)
 creation_ends store tag was x y (Ok done) low ready made alone fails =
     let r = ready.reached in
     let now : then_calls was (y ++ x) ≡ then_calls (then_calls was x) y = then_calls-append was y x in
+    let quiet_now : IsQuietStore was → IsQuietStore (then_calls was (y ++ x)) = λ quiet. subst IsQuietStore (sym now) (made.3 (still_quiet was x r.same quiet)) in
     record {
       none = ready.none;
       bytes = ready.bytes;
@@ -260,7 +270,11 @@ creation_ends store tag was x y (Ok done) low ready made alone fails =
       drawn = apart_more (then_calls was x) y x alone ∙ r.apart_is;
       fresh = subst (λ (h : History). IsFreshStore (files h) (tag_of ready.bytes)) (sym now)
           (subst (IsFreshStore (files (then_calls (then_calls was x) y))) ready.tag_is (fresh_stands _ tag low made.1.current));
-      quiet = λ quiet. subst IsQuietStore (sym now) (made.3 (still_quiet was x r.same quiet));
+      quiet = quiet_now;
+      rests = subst (IsQuiet 0) (sym now) made.4;
+      images = λ quiet image is.
+          subst (IsFreshStore image) ready.tag_is
+          (fresh_stands image tag low (quiet_image (then_calls was (y ++ x)) image (quiet_now quiet) is ∙ ap (λ (h : History). standing_of (files h)) now ∙ made.1.current));
     }
 creation_ends store tag was x y (Err creation.Exists) low ready made alone fails =
     let no : None ≡ Some made.0 = sym (ap standing_of (same_files was x ready.reached.same) ∙ ready.none) ∙ made.1 in cc
@@ -282,7 +296,9 @@ since_created store tag result low ready create fails =
     let mid = then_calls was x in
     record {
       each = at_more (IsUnderWay store was) y x r.reached.each
-          (at_map (λ z. IsNoneOrFresh tag mid (then_calls mid z)) (λ z. IsUnderWay store was (z ++ x)) y (creating store tag was x low r) l.0);
+          (at_map (λ z. IsNoneOrFresh tag mid (then_calls mid z) × IsUnfailedBefore (z ++ x)) (λ z. IsUnderWay store was (z ++ x)) y (λ z k. creating store tag was x low r z k.0 k.1)
+          (at_both (λ z. IsNoneOrFresh tag mid (then_calls mid z)) (λ z. IsUnfailedBefore (z ++ x)) y l.0
+          (before_each y x (failed_once mid y (is_failed_creation result) l.1.1) (none_failed x r.faultless))));
       end = creation_ends store tag was x y result low r l.1.0.answer (at_now (λ z. IsNoneOrFresh tag mid (then_calls mid z)) y l.0).others l.1.1;
       faultless = creation_faultless result mid y x l.1.1 r.faultless;
     })

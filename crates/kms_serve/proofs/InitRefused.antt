@@ -1,55 +1,77 @@
 -- Runs of `init` that its contract refuses: from each wrong list of calls, the newest first, and the contract follows anything.
-use Rattle.std.proofs.Common.{◌≡◌, inl, inr, ℕ, List, [], ◌∷◌, false, lit<, sym, ◌∙◌, ap, arith}
-use Rattle.std.specs.Prelude.{Option, Some, None, Result}
+use Rattle.std.proofs.Common.{◌≡◌, inl, inr, ℕ, List, [], ◌∷◌, ◌++◌, Bool, true, false, lit<, sym, ◌∙◌, ap, arith}
+use Rattle.std.specs.Prelude.{Option, Some, None, Result, ◌||◌}
 use Rattle.kms_host.specs.Disk.{Disk}
 use Rattle.kms_host.specs.History.{History}
-use Rattle.kms_host.specs.Store.{apart_from_files}
+use Rattle.kms_host.specs.Store.{apart_from_files, file_call_failed}
+use Rattle.kms_host.proofs.Moments.{at_each}
 use Rattle.kms_host.specs.declared.call.Call.{Call}
 use Rattle.kms_host.specs.declared.call.Call.TheVariants.{Attached, Gave, OnFile, Told, Drew}
+use Rattle.kms_host.specs.declared.call.FileCall.{FileCall}
 use Rattle.kms_host.specs.declared.call.FileCall.TheVariants.{Wrote, Synced}
 use Rattle.kms_host.specs.declared.call.NameFault.{NameFault}
 use Rattle.kms_host.specs.declared.call.Purpose.TheVariants.{Tag}
 use Rattle.kms_journal.specs.Device.{IsQuietStore}
-use Rattle.kms_serve.specs.Init.{IsAlone, IsNoStore, IsStore, Inits}
+use Rattle.kms_serve.specs.Init.{IsAlone, IsNoStore, IsStore, IsUnderWay, Inits}
+use Rattle.kms_serve.specs.StoreCalls.{store_failed}
 use Rattle.kms_serve.specs.declared.status.Status.{Status}
 use Rattle.kms_serve.specs.declared.status.Status.TheVariants as status
 
-gave_alone : (store : List ℕ) (line : ℕ) (piece : List ℕ) (went : Option ℕ) (rest : List Call) → IsAlone store (Gave line piece went ∷ rest) → ⊥
-gave_alone store line piece went rest (inl e) = cc
-gave_alone store line piece went rest (inr (inl e)) = let same = e.1 in cc
-gave_alone store line piece went rest (inr (inr e)) = let same = e.1 in cc
+gave_alone : (store : List ℕ) (was : History) (line : ℕ) (piece : List ℕ) (went : Option ℕ) (rest : List Call) → IsAlone store was (Gave line piece went ∷ rest) → ⊥
+gave_alone store was line piece went rest (inl e) = cc
+gave_alone store was line piece went rest (inr (inl e)) = let same = e.1 in cc
+gave_alone store was line piece went rest (inr (inr e)) = let same = e.1.1 in cc
 
 -- it sends bytes
 pub sends_bytes : (store : List ℕ) (s : Status) (was : History) (line : ℕ) (piece : List ℕ) (went : Option ℕ) (calls : List Call) → Inits store s was (Gave line piece went ∷ calls) → ⊥
-sends_bytes store s was line piece went calls i = gave_alone store line piece went (apart_from_files calls) i.each.0.alone
+sends_bytes store s was line piece went calls i = gave_alone store was line piece went (apart_from_files calls) i.each.0.alone
 
-told_alone : (store : List ℕ) (moment : ℕ) (rest : List Call) → IsAlone store (Told moment ∷ rest) → ⊥
-told_alone store moment rest (inl e) = cc
-told_alone store moment rest (inr (inl e)) = let same = e.1 in cc
-told_alone store moment rest (inr (inr e)) = let same = e.1 in cc
+told_alone : (store : List ℕ) (was : History) (moment : ℕ) (rest : List Call) → IsAlone store was (Told moment ∷ rest) → ⊥
+told_alone store was moment rest (inl e) = cc
+told_alone store was moment rest (inr (inl e)) = let same = e.1 in cc
+told_alone store was moment rest (inr (inr e)) = let same = e.1.1 in cc
 
 -- it asks for the time
 pub asks_for_the_time : (store : List ℕ) (s : Status) (was : History) (moment : ℕ) (calls : List Call) → Inits store s was (Told moment ∷ calls) → ⊥
-asks_for_the_time store s was moment calls i = told_alone store moment (apart_from_files calls) i.each.0.alone
+asks_for_the_time store s was moment calls i = told_alone store was moment (apart_from_files calls) i.each.0.alone
 
-drew_alone : (store : List ℕ) (bytes again : Option (List ℕ)) (rest : List Call) → IsAlone store (Drew Tag again ∷ Drew Tag bytes ∷ rest) → ⊥
-drew_alone store bytes again rest (inl e) = cc
-drew_alone store bytes again rest (inr (inl e)) = let same = e.1 in cc
-drew_alone store bytes again rest (inr (inr e)) = let same = e.1 in cc
+drew_alone : (store : List ℕ) (was : History) (bytes again : Option (List ℕ)) (rest : List Call) → IsAlone store was (Drew Tag again ∷ Drew Tag bytes ∷ rest) → ⊥
+drew_alone store was bytes again rest (inl e) = cc
+drew_alone store was bytes again rest (inr (inl e)) = let same = e.1 in cc
+drew_alone store was bytes again rest (inr (inr e)) = let same = e.1.1 in cc
 
 -- it draws twice
 pub draws_twice : (store : List ℕ) (s : Status) (was : History) (bytes again : Option (List ℕ)) (calls : List Call) → Inits store s was (Drew Tag again ∷ Drew Tag bytes ∷ calls) → ⊥
-draws_twice store s was bytes again calls i = drew_alone store bytes again (apart_from_files calls) i.each.0.alone
+draws_twice store s was bytes again calls i = drew_alone store was bytes again (apart_from_files calls) i.each.0.alone
 
-attached_alone : (store other : List ℕ) (done : Result (Unit {0}) NameFault) (rest : List Call) → IsAlone store (Attached other done ∷ rest) → other ≡ store
-attached_alone store other done rest (inl e) = cc
-attached_alone store other done rest (inr (inl e)) = let same = e.1 in cc
-attached_alone store other done rest (inr (inr e)) = let same = e.1 in cc
+attached_alone : (store : List ℕ) (was : History) (other : List ℕ) (done : Result (Unit {0}) NameFault) (rest : List Call) → IsAlone store was (Attached other done ∷ rest) → other ≡ store
+attached_alone store was other done rest (inl e) = cc
+attached_alone store was other done rest (inr (inl e)) = let same = e.1 in cc
+attached_alone store was other done rest (inr (inr e)) = let same = e.1.1 in cc
+
+drew_where : (store : List ℕ) (was : History) (bytes : Option (List ℕ)) (rest : List Call) → IsAlone store was (Drew Tag bytes ∷ rest) → IsNoStore was
+drew_where store was bytes rest (inl e) = cc
+drew_where store was bytes rest (inr (inl e)) = let same = e.1 in cc
+drew_where store was bytes rest (inr (inr e)) = e.0
+
+-- it draws over a store that is there, whatever it does then
+pub draws_over_a_store : (store : List ℕ) (s : Status) (was : History) (bytes : Option (List ℕ)) (later calls : List Call) → IsStore was
+    → Inits store s was (later ++ Drew Tag bytes ∷ calls) → ⊥
+draws_over_a_store store s was bytes later calls there i =
+    let u = at_each (IsUnderWay store was) later (Drew Tag bytes ∷ calls) i.each in
+    let no : None ≡ Some there.0 = sym (drew_where store was bytes (apart_from_files calls) u.alone) ∙ there.1 in cc
+
+-- it goes on after a call of the store that failed
+pub goes_on_after_a_fault : (store : List ℕ) (s : Status) (was : History) (f : ℕ) (c : FileCall) (next : Call) (calls : List Call) → file_call_failed c ≡ true
+    → Inits store s was (next ∷ OnFile f c ∷ calls) → ⊥
+goes_on_after_a_fault store s was f c next calls failed i =
+    let sound : (file_call_failed c || store_failed calls) ≡ false = i.each.0.unfailed in
+    let no : true ≡ false = sym (ap (λ (b : Bool). b || store_failed calls) failed) ∙ sound in cc
 
 -- it names another store
 pub names_another_store : (store other : List ℕ) (s : Status) (was : History) (done : Result (Unit {0}) NameFault) (calls : List Call) → (other ≡ store → ⊥)
     → Inits store s was (Attached other done ∷ calls) → ⊥
-names_another_store store other s was done calls differ i = differ (attached_alone store other done (apart_from_files calls) i.each.0.alone)
+names_another_store store other s was done calls differ i = differ (attached_alone store was other done (apart_from_files calls) i.each.0.alone)
 
 -- it is done behind a write that was not synced
 pub done_without_a_sync : (store : List ℕ) (was : History) (at : ℕ) (piece : List ℕ) (left : Option (List ℕ)) (calls : List Call) → IsQuietStore was

@@ -1,9 +1,11 @@
+pub mod AcknowledgedLaws
 pub mod CrashLaws
 pub mod EndLaws
 pub mod EventLaws
 pub mod GiveLaws
 pub mod InitLaws
 pub mod InitRefused
+pub mod NextLaws
 pub mod OpeningLaws
 pub mod OwingLaws
 pub mod PhraseLaws
@@ -13,5 +15,4 @@ pub mod ReplyLaws
 pub mod ServeLaws
 pub mod SinceLaws
 pub mod StoreCallLaws
-pub mod ToldLaws
 pub mod TurnLaws

@@ -6,7 +6,7 @@ use Rattle.kms_host.specs.History.{History, Tells, WhereTold, then_call}
 use Rattle.kms_host.specs.Line.{taken, sent, times, at_end, failed_on, is_shut, IsOpen, IsStill}
 use Rattle.kms_host.specs.Moment.{AtEach, Since, Throughout, then_calls}
 use Rattle.kms_host.specs.declared.call.Call.{Call}
-use Rattle.kms_host.specs.declared.call.Call.TheVariants.{Text, Attached, Took, Gave, Shut, OnFile, Told, Drew}
+use Rattle.kms_host.specs.declared.call.Call.TheVariants.{Text, Listened, Came, Attached, Took, Gave, Shut, OnFile, Told, Drew}
 use Rattle.kms_host.specs.declared.call.FileCall.{FileCall}
 use Rattle.kms_host.specs.declared.call.NameFault.{NameFault}
 use Rattle.kms_host.proofs.Moments.{at_more, at_map, since_told, then_calls-append, then_calls-calls, tells_then, tells_with, known_after_told}
@@ -29,15 +29,15 @@ use Rattle.kms_serve.specs.Events.{events}
 use Rattle.kms_serve.specs.Opening.{IsRefused, IsAsBefore, IsOpening, IsUnopened, IsOpenedBy, Opens, refusal_of}
 use Rattle.kms_serve.specs.Owing.{GoodAt, EndedAt}
 use Rattle.kms_serve.specs.Replies.{replies, before_newest, due}
-use Rattle.kms_serve.specs.StoreCalls.{store_failed, OnlyFiles}
+use Rattle.kms_serve.specs.StoreCalls.{store_failed, IsUnfailedBefore, OnlyFiles}
 use Rattle.kms_serve.specs.Turns.{CanServe, serving_of}
 use Rattle.kms_serve.specs.declared.status.Status.{Status}
 use Rattle.kms_serve.specs.declared.status.Status.TheVariants as status
 use Rattle.kms_serve.proofs.CrashLaws.{quiet_image, stands_as, stands_by}
 use Rattle.kms_serve.proofs.EventLaws.{after-first}
 use Rattle.kms_serve.proofs.GiveLaws.{on_line-nil}
-use Rattle.kms_serve.proofs.ToldLaws.{tells_both}
-use Rattle.kms_serve.proofs.StoreCallLaws.{same_by_files, store_failed-append, only_files, failed_since}
+use Rattle.kms_host.proofs.ToldLaws.{tells_both}
+use Rattle.kms_serve.proofs.StoreCallLaws.{same_by_files, store_failed-append, only_files, failed_since, failed_once, unfailed_before, before_more}
 
 abbrev pub failure : StartFault → Result Held StartFault
 failure fault = Err fault
@@ -57,7 +57,7 @@ unnamed store fault s told why =
       Attached store (Err fault) ∷ [],
       is,
       record {
-        opening = record { done = Err fault; on_files = []; made = refl; only = tt; each = (named_as_before was store (Err fault), before_all was) };
+        opening = record { done = Err fault; on_files = []; made = refl; only = tt; unfailed = refl; each = (named_as_before was store (Err fault), before_all was) };
         why = why was;
       },
     ))
@@ -73,8 +73,13 @@ module _ (store : List ℕ) (was now : History) where
   kept : (h : History) → KeepsStanding mid h → IsAsBefore was h
   kept h k = record { images = λ quiet image is. k.images (quiet_mid quiet) image is; none = λ no f. (k.none no).disk f; other = k.other; syncs = k.syncs }
 
-  pub opening_of : (t : Throughout (KeepsStanding mid) mid now) → IsOpening store was (t.more ++ Attached store (Ok tt) ∷ [])
-  opening_of t = record {
+  -- of the calls up to here only the newest may have failed
+  before_now : (t : Throughout (KeepsStanding mid) mid now) (failed : Bool) → Fails failed mid now → IsUnfailedBefore (t.more ++ Attached store (Ok tt) ∷ [])
+  before_now t failed fails = before_more t.more (Attached store (Ok tt) ∷ []) (failed_once mid t.more failed (subst (Fails failed mid) t.extends fails)) refl
+
+  pub opening_of : (t : Throughout (KeepsStanding mid) mid now) (failed : Bool) → Fails failed mid now → IsOpening store was (t.more ++ Attached store (Ok tt) ∷ [])
+  opening_of t failed fails = record {
+    unfailed = before_now t failed fails;
     done = Ok tt;
     on_files = t.more;
     made = refl;
@@ -108,7 +113,7 @@ module _ (store : List ℕ) (was now : History) where
         t.more ++ Attached store (Ok tt) ∷ [],
         opened_now t,
         record {
-          opening = opening_of t;
+          opening = opening_of t (is_failed_start (failure fault)) fails;
           why = subst (λ (x : Status). IsRefused x was (t.more ++ Attached store (Ok tt) ∷ [])) (sym is) (refused_by fault (t.more ++ Attached store (Ok tt) ∷ []) starts (failed_then t.more _ t.extends fails));
         },
       )
@@ -120,8 +125,8 @@ module _ (store : List ℕ) (was now : History) where
         t.more ++ Attached store (Ok tt) ∷ [],
         opened_now t,
         record {
-          opening = opening_of t;
-          start = subst (IsStart (Ok engine) was) (opened_now t) (a.0, a.1, a.2, λ quiet. a.3 (quiet_mid quiet));
+          opening = opening_of t false fails;
+          start = subst (IsStart (Ok engine) was) (opened_now t) (a.0, a.1, a.2, λ quiet. a.3 (quiet_mid quiet), a.4);
           unfailed = failed_then t.more false t.extends fails;
         },
       )
@@ -197,35 +202,38 @@ module _ (endpoint : List ℕ) (b : RunStart) (stands : Stands (files b.was) b.f
     few_syncs = rw none (omega (arith, before.syncs));
   }
 
-  pub opening_each : (on_files : List Call) (done : Result (Unit {0}) NameFault) → OnlyFiles on_files
+  pub opening_each : (on_files : List Call) (done : Result (Unit {0}) NameFault) → OnlyFiles on_files → IsUnfailedBefore (on_files ++ Attached b.store done ∷ [])
       → AtEach (λ x. IsAsBefore b.was (then_calls b.was x)) (on_files ++ Attached b.store done ∷ []) → AtEach (Answered endpoint b []) (on_files ++ Attached b.store done ∷ [])
-  opening_each [] done only each = (
+  opening_each [] done only unfailed each = (
     answered_as_before (Attached b.store done ∷ []) refl refl (λ line. refl) (record { of_words = refl; at_first = refl }) tt each.0,
     answered_as_before [] refl refl (λ line. refl) tt tt each.1,
   )
-  opening_each (Text name room bytes ∷ on_files) done only each = absurd only
-  opening_each (Attached name d ∷ on_files) done only each = absurd only
-  opening_each (Took line room bytes ∷ on_files) done only each = absurd only
-  opening_each (Gave line piece went ∷ on_files) done only each = absurd only
-  opening_each (Shut line ∷ on_files) done only each = absurd only
-  opening_each (OnFile file c ∷ on_files) done only each = (
+  opening_each (Text name room bytes ∷ on_files) done only unfailed each = absurd only
+  opening_each (Listened address heard ∷ on_files) done only unfailed each = absurd only
+  opening_each (Came next ∷ on_files) done only unfailed each = absurd only
+  opening_each (Attached name d ∷ on_files) done only unfailed each = absurd only
+  opening_each (Took line room bytes ∷ on_files) done only unfailed each = absurd only
+  opening_each (Gave line piece went ∷ on_files) done only unfailed each = absurd only
+  opening_each (Shut line ∷ on_files) done only unfailed each = absurd only
+  opening_each (OnFile file c ∷ on_files) done only unfailed each = (
     answered_as_before (OnFile file c ∷ (on_files ++ Attached b.store done ∷ [])) (no_events on_files done only)
         (same_by_files times (λ f d calls. refl) on_files (Attached b.store done ∷ []) only) (λ line. nothing line on_files done only)
         (record {
           given = λ line. nothing line on_files done only ∙ sym (ap (λ es. replies line endpoint b.first (before_newest es) []) (no_events on_files done only));
           needed = inl (done, same_by_files apart_from_files (λ f d calls. refl) on_files (Attached b.store done ∷ []) only);
           sound = same_by_files (failed_on 0) (λ f d calls. refl) on_files (Attached b.store done ∷ []) only;
+          unfailed = unfailed;
         }) tt each.0,
-    opening_each on_files done only each.1,
+    opening_each on_files done only (unfailed_before (on_files ++ Attached b.store done ∷ []) unfailed) each.1,
   )
-  opening_each (Told t ∷ on_files) done only each = absurd only
-  opening_each (Drew purpose bytes ∷ on_files) done only each = absurd only
+  opening_each (Told t ∷ on_files) done only unfailed each = absurd only
+  opening_each (Drew purpose bytes ∷ on_files) done only unfailed each = absurd only
 
 each_of : (endpoint store : List ℕ) (was : History) (first : State) (steps : ℕ) (calls : List Call) → Stands (files was) first steps → (o : IsOpening store was calls)
     → AtEach (Answered endpoint (run_start store was first steps) []) calls
 each_of endpoint store was first steps calls stands o =
     subst (AtEach (Answered endpoint (run_start store was first steps) [])) (sym o.made)
-    (opening_each endpoint (run_start store was first steps) stands o.on_files o.done o.only (subst (AtEach (λ x. IsAsBefore was (then_calls was x))) o.made o.each))
+    (opening_each endpoint (run_start store was first steps) stands o.on_files o.done o.only (subst IsUnfailedBefore o.made o.unfailed) (subst (AtEach (λ x. IsAsBefore was (then_calls was x))) o.made o.each))
 
 -- what no opening does
 same_opening : {A : Type 0} (F : List Call → A) (store : List ℕ) (was : History) (calls : List Call) → ((file : ℕ) (c : FileCall) (x : List Call) → F (OnFile file c ∷ x) ≡ F x)

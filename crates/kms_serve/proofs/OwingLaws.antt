@@ -2,13 +2,13 @@
 use Rattle.std.proofs.Common.{◌≡◌, ◌⊎◌, inl, inr, ℕ, zero, suc, ◌+◌, ◌*◌, ◌≤◌, ◌<◌, List, [], ◌∷◌, ◌++◌, length, take, Bool, true, false, Option, Some, None, Result, Ok, Err, refl, sym, ap, ◌∙◌, subst, arith, length-append, cond}
 use Rattle.std.specs.Prelude.{◌||◌}
 use Rattle.std.proofs.lemmas.List.{append_assoc, append-nil}
-use Rattle.kms_host.specs.Disk.{IsImage}
+use Rattle.kms_host.specs.Disk.{files, IsImage}
 use Rattle.kms_host.specs.History.{History, then_call}
 use Rattle.kms_host.specs.Moment.{AtEach, then_calls}
 use Rattle.kms_host.specs.Line.{taken, sent, times, at_end, failed_on, is_empty, is_shut, IsStill, OnlyGives}
 use Rattle.kms_host.specs.Store.{syncs}
 use Rattle.kms_host.specs.declared.call.Call.{Call}
-use Rattle.kms_host.specs.declared.call.Call.TheVariants.{Text, Attached, Took, Gave, Shut, OnFile, Told, Drew}
+use Rattle.kms_host.specs.declared.call.Call.TheVariants.{Text, Listened, Came, Attached, Took, Gave, Shut, OnFile, Told, Drew}
 use Rattle.kms_host.proofs.LineLaws.{sent-append, taken-gives, times-gives, at_end-gives, is_shut-gives, failed_on-append}
 use Rattle.kms_host.proofs.Moments.{at_now, at_map, then_calls-append}
 use Rattle.kms_journal.specs.Device.{IsQuietStore}
@@ -28,20 +28,20 @@ use Rattle.kms_http.specs.declared.fault.FaultReply.TheVariants.{F1}
 use Rattle.kms_serve.specs.RunStart.{RunStart, history}
 use Rattle.kms_serve.specs.Events.{LineEvent, events, event, event_at, most}
 use Rattle.kms_serve.specs.Replies.{asked, state_by, steps_by, reply_to, replies, before_newest, fault_on, due}
-use Rattle.kms_serve.specs.Answered.{Answered, InTurn, IsReady, IsNext, IsOver, IsServed, IsBetween}
+use Rattle.kms_serve.specs.Answered.{Answered, InTurn, MayTake, MayGive, MayShut, IsServed, MayCallFile}
 use Rattle.kms_serve.specs.Ends.{AllGiven, AllKept, EndsUnreadable}
 use Rattle.kms_serve.specs.Owed.{Prepares, Settled, OnlyLeft, Gives, GivesFault, owed_bytes, is_fault, steps_at}
 use Rattle.kms_serve.specs.Opening.{IsAsBefore}
 use Rattle.kms_serve.specs.Owing.{on_line, OwingAt, GoodAt, EndedAt}
-use Rattle.kms_serve.specs.StoreCalls.{store_failed, OnlyFiles}
+use Rattle.kms_serve.specs.StoreCalls.{store_failed, IsUnfailedBefore, OnlyFiles}
 use Rattle.kms_serve.specs.declared.owed.Owed.{Owed}
 use Rattle.kms_serve.specs.declared.serving.Serving.{Serving}
 use Rattle.kms_serve.specs.declared.status.Status.TheVariants as status
-use Rattle.kms_serve.proofs.CrashLaws.{Same, same_then, as_before_same, AllKeep, safe, safe-marks, keep_on, settled_keep, settled_stands, settled_same, quiet_same, stands_as, holds_settling, keeps_faulted, same_gives, same_took, same_shut, same_told}
+use Rattle.kms_serve.proofs.CrashLaws.{Same, same_then, as_before_same, AllKeep, safe, safe-marks, keep_on, settled_keep, settled_stands, settled_same, quiet_same, quiet_image, stands_as, stands_by, holds_settling, keeps_faulted, same_gives, same_took, same_shut, same_told}
 use Rattle.kms_serve.proofs.EventLaws.{events-gives, events-told, served_at-next, after-bad}
 use Rattle.kms_serve.proofs.GiveLaws.{only_gives, left_rest, sent_on, on_line-append, on_line-nil, fails-append}
 use Rattle.kms_serve.proofs.ReplyLaws.{state_by-more, steps_by-more, steps_by-marks, replies-more, replies-marks, due-marks, before_newest-more, fault_on-more, length-before_newest, on_event}
-use Rattle.kms_serve.proofs.StoreCallLaws.{same_by_files, store_failed-append, store_failed-gives}
+use Rattle.kms_serve.proofs.StoreCallLaws.{same_by_files, store_failed-append, store_failed-gives, both_unfailed, unfailed_before}
 use Rattle.kms_http.proofs.StreamLaws.{after-more}
 
 turn_marks : (endpoint : List ℕ) (b : RunStart) (marks more : List Mark) (calls : List Call) → length (events calls) ≤ length marks
@@ -70,6 +70,8 @@ turn_marks endpoint b marks more (Shut l ∷ calls) within h = record {
   unfailed = h.unfailed;
 }
 turn_marks endpoint b marks more (Text name room bytes ∷ calls) within h = absurd h
+turn_marks endpoint b marks more (Listened address done ∷ calls) within h = absurd h
+turn_marks endpoint b marks more (Came line ∷ calls) within h = absurd h
 turn_marks endpoint b marks more (Attached name done ∷ calls) within h = record { of_words = h.of_words; at_first = h.at_first }
 turn_marks endpoint b marks more (OnFile file c ∷ calls) within h =
     let fewer : length (before_newest (events calls)) ≤ length marks = omega (arith, within, length-before_newest (events calls)) in
@@ -80,6 +82,7 @@ turn_marks endpoint b marks more (OnFile file c ∷ calls) within h =
         | inr step ↦ inr (omega (arith, step, steps_by-marks b.first (before_newest (events calls)) marks more fewer, steps_by-marks b.first (events calls) marks more within))
       ];
       sound = h.sound;
+      unfailed = h.unfailed;
     }
 turn_marks endpoint b marks more (Drew purpose bytes ∷ calls) within h = absurd h
 turn_marks endpoint b marks more (Told t ∷ calls) within h =
@@ -232,30 +235,33 @@ module _ (endpoint : List ℕ) (b : RunStart) (s : Serving) (then : Held) (stand
         few_syncs = rw (same_events on_files only) (few_settling on_files need settling);
       }
 
-  between : (on_files : List Call) → OnlyFiles on_files → 0 < steps_at s.engine e mark → IsBetween endpoint b marks (on_files ++ Told time ∷ x)
-  between on_files only need = record {
+  between : (on_files : List Call) → OnlyFiles on_files → store_failed on_files ≡ false → 0 < steps_at s.engine e mark → MayCallFile endpoint b marks (on_files ++ Told time ∷ x)
+  between on_files only unfailed need = record {
+    unfailed = both_unfailed on_files (Told time ∷ x) unfailed o.unfailed;
     needed = inr (rw (same_events on_files only, before_newest-more es e) (omega (arith, need, steps_then, steps_before)));
     sound = same_by_files (failed_on 0) (λ file c calls. refl) on_files (Told time ∷ x) only ∙ o.sound;
     given = λ line. same_sent line on_files only ∙ given_then line ∙ ap (λ (l : List LineEvent). replies line endpoint b.first l marks) (sym (ap before_newest (same_events on_files only) ∙ before_newest-more es e));
   }
 
-  pub settling_each : (on_files : List Call) → OnlyFiles on_files → (IsSome on_files → 0 < steps_at s.engine e mark) → AtEach (λ z. Moment (then_calls mid z)) on_files
+  pub settling_each : (on_files : List Call) → OnlyFiles on_files → IsUnfailedBefore on_files → (IsSome on_files → 0 < steps_at s.engine e mark) → AtEach (λ z. Moment (then_calls mid z)) on_files
       → AtEach (Answered endpoint b marks) (on_files ++ Told time ∷ x)
-  settling_each [] only need settling = (
+  settling_each [] only unfailed need settling = (
     settling_at [] tt need settling (record { given = given_then; unfailed = o.unfailed }) tt,
     at_map (Answered endpoint b o.marks) (Answered endpoint b marks) x (answered_marks endpoint b o.marks (mark ∷ [])) o.each,
   )
-  settling_each (Text name room bytes ∷ on_files) only need settling = absurd only
-  settling_each (Attached name done ∷ on_files) only need settling = absurd only
-  settling_each (Took line room bytes ∷ on_files) only need settling = absurd only
-  settling_each (Gave line piece went ∷ on_files) only need settling = absurd only
-  settling_each (Shut line ∷ on_files) only need settling = absurd only
-  settling_each (OnFile file c ∷ on_files) only need settling = (
-    settling_at (OnFile file c ∷ on_files) only need settling.0 (between on_files only (need tt)) tt,
-    settling_each on_files only (λ some. need tt) settling.1,
+  settling_each (Text name room bytes ∷ on_files) only unfailed need settling = absurd only
+  settling_each (Listened address done ∷ on_files) only unfailed need settling = absurd only
+  settling_each (Came next ∷ on_files) only unfailed need settling = absurd only
+  settling_each (Attached name done ∷ on_files) only unfailed need settling = absurd only
+  settling_each (Took line room bytes ∷ on_files) only unfailed need settling = absurd only
+  settling_each (Gave line piece went ∷ on_files) only unfailed need settling = absurd only
+  settling_each (Shut line ∷ on_files) only unfailed need settling = absurd only
+  settling_each (OnFile file c ∷ on_files) only unfailed need settling = (
+    settling_at (OnFile file c ∷ on_files) only need settling.0 (between on_files only unfailed (need tt)) tt,
+    settling_each on_files only (unfailed_before on_files unfailed) (λ some. need tt) settling.1,
   )
-  settling_each (Told t ∷ on_files) only need settling = absurd only
-  settling_each (Drew purpose bytes ∷ on_files) only need settling = absurd only
+  settling_each (Told t ∷ on_files) only unfailed need settling = absurd only
+  settling_each (Drew purpose bytes ∷ on_files) only unfailed need settling = absurd only
 
   -- it is settled, and its reply is owed
   pub settled_at : (t : Serving) (now : After) (reply : List ℕ) (on_files : List Call) → OnlyFiles on_files → (IsSome on_files → 0 < steps_at s.engine e mark)
@@ -275,7 +281,7 @@ module _ (endpoint : List ℕ) (b : RunStart) (s : Serving) (then : Held) (stand
       let then_is : then_calls mid on_files ≡ history b calls = sym (then_calls-append b.was on_files (Told time ∷ x)) in
       record {
         marks = marks;
-        each = settling_each on_files only need settled.each;
+        each = settling_each on_files only (unfailed_before on_files sound) need settled.each;
         marked = omega (arith, long on_files only, length-append o.marks (mark ∷ []), o.marked);
         counted = omega (arith, count, long on_files only, o.counted);
         state = ap (λ (h : Held). h.state) engine ∙ state_then ∙ ap (λ (l : List LineEvent). state_by b.first l marks) (sym events_are);
@@ -296,14 +302,14 @@ module _ (endpoint : List ℕ) (b : RunStart) (s : Serving) (then : Held) (stand
       }
 
   -- settling it failed, and the fault of the store is owed
-  pub faulted_at : (on_files : List Call) → OnlyFiles on_files → (IsSome on_files → 0 < steps_at s.engine e mark) → AtEach (λ z. Moment (then_calls mid z)) on_files → store_failed on_files ≡ true
+  pub faulted_at : (on_files : List Call) → OnlyFiles on_files → IsUnfailedBefore on_files → (IsSome on_files → 0 < steps_at s.engine e mark) → AtEach (λ z. Moment (then_calls mid z)) on_files → store_failed on_files ≡ true
       → FaultingAt endpoint b (fault_reply_of F1) (on_files ++ Told time ∷ x)
-  faulted_at on_files only need settling fails =
+  faulted_at on_files only unfailed need settling fails =
       let calls = on_files ++ Told time ∷ x in
       let failed : store_failed calls ≡ true = store_failed-append on_files (Told time ∷ x) ∙ ap (λ f. f || store_failed x) fails in
       record {
         marks = marks;
-        each = settling_each on_files only need settling;
+        each = settling_each on_files only unfailed need settling;
         marked = omega (arith, long on_files only, length-append o.marks (mark ∷ []), o.marked);
         owes = λ line.
             ap (λ (l : List LineEvent). due line endpoint b.first l marks true) (same_events on_files only)
@@ -321,6 +327,8 @@ module _ (endpoint : List ℕ) (b : RunStart) (s : Serving) (then : Held) (stand
 syncs_gives : (line : ℕ) (b : RunStart) (gives calls : List Call) → OnlyGives line gives → syncs (history b (gives ++ calls)).calls ≡ syncs (history b calls).calls
 syncs_gives line b [] calls only = refl
 syncs_gives line b (Text name room bytes ∷ gives) calls only = absurd only
+syncs_gives line b (Listened address done ∷ gives) calls only = absurd only
+syncs_gives line b (Came next ∷ gives) calls only = absurd only
 syncs_gives line b (Attached name done ∷ gives) calls only = absurd only
 syncs_gives line b (Took l room bytes ∷ gives) calls only = absurd only
 syncs_gives line b (Gave l piece went ∷ gives) calls only = syncs_gives line b gives calls only.1
@@ -363,12 +371,12 @@ given_here endpoint b marks owed l piece went gives calls a owes keep sound only
     ∙ ap (λ z. sent 0 (gives ++ calls) ++ z) (sym (append-nil piece))
     in
     let whole : failed_on 0 (gives ++ calls) ≡ false = failed_on-append 0 gives calls ∙ ap (λ f. f || failed_on 0 calls) only.0.sound ∙ sound in
-    let in_turn : IsNext endpoint b marks 0 piece (gives ++ calls) = record { some = only.0.some; rest = []; next = next } in
+    let in_turn : MayGive endpoint b marks 0 piece (gives ++ calls) = record { some = only.0.some; rest = []; next = next } in
     record {
       within = rw same a.within;
       timed = rw (times-gives 0 gives calls gave.1, same) a.timed;
       printed = λ line. (on_line line rest.0, shown line);
-      in_turn = subst (λ (k : ℕ). IsNext endpoint b marks k piece (gives ++ calls)) (sym only.0.of_line) in_turn;
+      in_turn = subst (λ (k : ℕ). MayGive endpoint b marks k piece (gives ++ calls)) (sym only.0.of_line) in_turn;
       still = subst (λ (k : ℕ). failed_on k (gives ++ calls) ≡ false) (sym only.0.of_line) whole;
       safe = safe endpoint b marks (Gave l piece went ∷ (gives ++ calls)) (keep_on b marks calls (Gave l piece went ∷ (gives ++ calls)) same fails (same_gives 0 b (Gave l piece went ∷ gives) calls gave) keep);
       unasked = λ none.
@@ -391,6 +399,8 @@ given_each endpoint b marks owed (Gave l piece went ∷ gives) calls each owes k
 )
 given_each endpoint b marks owed (Shut l ∷ gives) calls each owes keep sound only = absurd only
 given_each endpoint b marks owed (Text name room bytes ∷ gives) calls each owes keep sound only = absurd only
+given_each endpoint b marks owed (Listened address done ∷ gives) calls each owes keep sound only = absurd only
+given_each endpoint b marks owed (Came line ∷ gives) calls each owes keep sound only = absurd only
 given_each endpoint b marks owed (Attached name done ∷ gives) calls each owes keep sound only = absurd only
 given_each endpoint b marks owed (OnFile file c ∷ gives) calls each owes keep sound only = absurd only
 given_each endpoint b marks owed (Told t ∷ gives) calls each owes keep sound only = absurd only
@@ -449,6 +459,17 @@ owing_given E endpoint b s now owed x y o g =
       unfailed = store_failed-gives 0 y x gave ∙ o.unfailed;
     }
 
+-- what stands for the last state leaves it in each crash image
+kept_by : (b : RunStart) (marks : List Mark) (calls : List Call) → Stands (files (history b calls)) (state_by b.first (events calls) marks) (b.steps + steps_by b.first (events calls) marks)
+    → (IsQuietStore b.was → IsQuietStore (history b calls)) → store_failed calls ≡ false → AllKept b marks calls
+kept_by b marks calls stands quiet unfailed = record {
+  stands = stands;
+  quiet = quiet;
+  images = λ was_quiet image is.
+      stands_by image (files (history b calls)) (state_by b.first (events calls) marks) (b.steps + steps_by b.first (events calls) marks) (quiet_image (history b calls) image (quiet was_quiet) is) stands;
+  unfailed = unfailed;
+}
+
 -- a call failed while it was given
 pub ended_giving : {E : Type 0} (endpoint : List ℕ) (b : RunStart) (s : Serving) (now : After) (owed : List ℕ) (e : E) (x y : List Call)
     → OwingAt endpoint b s now owed x → (let r : Result (Unit {0}) E = Err e in Gives 0 owed r y) → EndedAt endpoint b status.LinkFault (y ++ x)
@@ -456,12 +477,11 @@ ended_giving endpoint b s now owed e x y o g =
     let gave = only_gives 0 owed y g.only in
     let same : events (y ++ x) ≡ events x = events-gives 0 y x gave in
     let n = b.steps + steps_by b.first (events x) o.marks in
-    let kept : AllKept b o.marks (y ++ x) = record {
-      stands = stands_as _ s.engine.state (state_by b.first (events (y ++ x)) o.marks) n (b.steps + steps_by b.first (events (y ++ x)) o.marks) (rw same o.state) (rw same refl)
-          (settled_stands s.engine n (history b (y ++ x)) (settled_same s.engine n (history b x) (history b (y ++ x)) (same_gives 0 b y x gave) o.settled));
-      quiet = λ quiet. quiet_same (history b x) (history b (y ++ x)) (same_gives 0 b y x gave) (o.quiet quiet);
-      unfailed = store_failed-gives 0 y x gave ∙ o.unfailed;
-    } in
+    let kept : AllKept b o.marks (y ++ x) =
+    kept_by b o.marks (y ++ x)
+    (stands_as _ s.engine.state (state_by b.first (events (y ++ x)) o.marks) n (b.steps + steps_by b.first (events (y ++ x)) o.marks) (rw same o.state) (rw same refl)
+    (settled_stands s.engine n (history b (y ++ x)) (settled_same s.engine n (history b x) (history b (y ++ x)) (same_gives 0 b y x gave) o.settled)))
+    (λ quiet. quiet_same (history b x) (history b (y ++ x)) (same_gives 0 b y x gave) (o.quiet quiet)) (store_failed-gives 0 y x gave ∙ o.unfailed) in
     record {
       marks = o.marks;
       each = owing_each endpoint b s now owed x y o g.only;
@@ -502,7 +522,7 @@ shut_each : (endpoint : List ℕ) (b : RunStart) (marks : List Mark) (calls : Li
     → IsServed calls → store_failed calls ≡ false → AllKeep b marks calls → AtEach (Answered endpoint b marks) calls → AtEach (Answered endpoint b marks) (Shut 0 ∷ calls)
 shut_each endpoint b marks calls once given over unfailed keep each =
     let a = at_now (Answered endpoint b marks) calls each in
-    let turn : IsOver endpoint b marks 0 calls = record { of_line = refl; once = once; given = given; over = over; unfailed = unfailed } in
+    let turn : MayShut endpoint b marks 0 calls = record { of_line = refl; once = once; given = given; over = over; unfailed = unfailed } in
     let unasked : events calls ≡ [] → IsAsBefore b.was (history b (Shut 0 ∷ calls)) =
     λ none. as_before_same b.was (history b calls) (history b (Shut 0 ∷ calls)) (same_shut (history b calls) 0) refl (a.unasked none) in
     let here = safe endpoint b marks (Shut 0 ∷ calls) (keep_on b marks calls (Shut 0 ∷ calls) refl refl (same_shut (history b calls) 0) keep) in
@@ -514,12 +534,10 @@ kept_same : (b : RunStart) (marks : List Mark) (engine : Held) (was now : List C
     → (IsQuietStore b.was → IsQuietStore (history b was)) → store_failed now ≡ false → AllKept b marks now
 kept_same b marks engine was now calls same state settled quiet unfailed =
     let n = b.steps + steps_by b.first (events was) marks in
-    record {
-      stands = stands_as _ engine.state (state_by b.first (events now) marks) n (b.steps + steps_by b.first (events now) marks) (rw same state) (rw same refl)
-          (settled_stands engine n (history b now) (settled_same engine n (history b was) (history b now) calls settled));
-      quiet = λ was_quiet. quiet_same (history b was) (history b now) calls (quiet was_quiet);
-      unfailed = unfailed;
-    }
+    kept_by b marks now
+    (stands_as _ engine.state (state_by b.first (events now) marks) n (b.steps + steps_by b.first (events now) marks) (rw same state) (rw same refl)
+    (settled_stands engine n (history b now) (settled_same engine n (history b was) (history b now) calls settled)))
+    (λ was_quiet. quiet_same (history b was) (history b now) calls (quiet was_quiet)) unfailed
 
 -- the last message of the line was answered
 pub ended_over : (endpoint : List ℕ) (b : RunStart) (s : Serving) (calls : List Call) → OwingAt endpoint b s Over [] calls → EndedAt endpoint b status.Done (Shut 0 ∷ calls)
@@ -575,7 +593,7 @@ faulting_prepared endpoint b s then owed sv x y is fault o p =
     let settled = p.settled (b.steps + steps_by b.first (events x) o.marks) o.settled in
     rw (p.fault_is fault)
     (subst (FaultingAt endpoint b (fault_reply_of F1)) (sym (ap (λ z. z ++ x) p.made ∙ unpack p.files x p.time))
-    (faulted_at endpoint b s then (Going s.reader.held) sv p.time p.mark x o one p.state p.files p.only (steps_needed _ p.files p.idle) settled.each (p.failed ∙ fault)))
+    (faulted_at endpoint b s then (Going s.reader.held) sv p.time p.mark x o one p.state p.files p.only p.unfailed (steps_needed _ p.files p.idle) settled.each (p.failed ∙ fault)))
 
 pub refusing_prepared : (endpoint : List ℕ) (b : RunStart) (s t : Serving) (owed : Owed) (x y : List Call)
     → front s.reader.held ≡ Bad
@@ -649,7 +667,7 @@ took_each : (endpoint : List ℕ) (b : RunStart) (s : Serving) (n : ℕ) (bytes 
     → (g : GoodAt endpoint b s calls) → AtEach (Answered endpoint b g.marks) (Took 0 n bytes ∷ calls)
 took_each endpoint b s n bytes calls size part g =
     let a = at_now (Answered endpoint b g.marks) calls g.each in
-    let ready : IsReady endpoint b g.marks 0 n calls = record {
+    let ready : MayTake endpoint b g.marks 0 n calls = record {
       of_line = refl;
       of_size = size;
       unended = g.unfinished;

@@ -1,35 +1,39 @@
 -- Each answer of the plain key manager has a status with a reason phrase.
-use Rattle.std.proofs.Common.{ℕ, Bool, true, false, Option, Some, None, Ok, Err, cond, refl}
+use Rattle.std.proofs.Common.{ℕ, Bool, true, false, Option, Some, None, Result, Ok, Err, refl}
 use Rattle.kms_json.proofs.Phrases.{HasPhrase}
 use Rattle.kms_model.specs.Ask.{answer_to}
-use Rattle.kms_model.specs.AskSecret.{is_short_name, has_id, next_id, secret_at, found_answer}
+use Rattle.kms_model.specs.Done.{Done, ◌>>=◌, answer_by, only_if, there}
+use Rattle.kms_model.specs.Secrets.{has_id, is_short_name, new_secret, next_id, posted, secret_at, shown}
 use Rattle.kms_model.specs.Run.{asked_answer}
-use Rattle.kms_model.specs.declared.event.Request.{Request}
-use Rattle.kms_model.specs.declared.event.Request.TheVariants.{Asking, Refusing}
+use Rattle.kms_world.specs.Effect.{SecretPut}
+use Rattle.kms_world.specs.Secret.{attributes_of}
 use Rattle.kms_world.specs.State.{State}
-use Rattle.kms_world.specs.declared.answer.Answer.TheVariants.{Refused, Link}
-use Rattle.kms_world.specs.declared.answer.Link.TheVariants.{Secret as SecretLink}
+use Rattle.kms_world.specs.declared.body.SecretBody.{SecretBody}
 use Rattle.kms_world.specs.declared.caller.Caller.{Caller}
 use Rattle.kms_world.specs.declared.id.Id.{Id}
 use Rattle.kms_world.specs.declared.operation.Op.{Op}
-use Rattle.kms_world.specs.declared.operation.Op.TheVariants.{PostSecret, GetSecret}
-use Rattle.kms_world.specs.declared.refusal.Field.TheVariants.{Name}
-use Rattle.kms_world.specs.declared.refusal.Refusal.TheVariants.{BadBody, IdsSpent}
+use Rattle.kms_world.specs.declared.operation.Op.TheVariants.{ListSecrets, PostSecret, GetSecret, PutPayload, DeleteSecret, GetPayload, GetMetadata, PutMetadata, PostPair, GetPair, PutPair, DeletePair, GetAcl, PutAcl, PatchAcl, DeleteAcl, ListContainers, PostContainer, GetContainer, DeleteContainer, PostMember, DeleteMember, ListConsumers, PostConsumer, DeleteConsumer, ListOrders, PostOrder, GetOrder, DeleteOrder, GetQuotas, ListQuotas, GetProjectQuotas, PutProjectQuotas, DeleteProjectQuotas}
+use Rattle.kms_world.specs.declared.operation.Request.{Request}
+use Rattle.kms_world.specs.declared.operation.Request.TheVariants.{Asking, Refusing}
+use Rattle.kms_world.specs.declared.refusal.Refusal.{Refusal}
 use Rattle.kms_world.specs.declared.secret.SecretRow.{SecretRow}
 
-posted : (short left : Bool) (id : Id) → HasPhrase (cond short (cond left (Link 201 SecretLink id) (Refused IdsSpent)) (Refused (BadBody Name)))
-posted true true id = refl
-posted true false id = tt
-posted false left id = tt
+-- a test that refuses has a phrase; else what comes after it has one
+after : {A : Type 0} (test : Result A Refusal) (rest : A → Result Done Refusal) → ((x : A) → HasPhrase (answer_by (rest x))) → HasPhrase (answer_by (test >>= rest))
+after (Ok x) rest h = h x
+after (Err refusal) rest h = tt
 
-found : (row : Option SecretRow) → HasPhrase (found_answer row)
-found (Some row) = tt
-found None = tt
+post : (s : State) (caller : Caller) (body : Result SecretBody Refusal) (t : ℕ) → HasPhrase (answer_by (posted s caller body t))
+post s caller body t =
+    after body _ (λ new. after (only_if (is_short_name new.name) _) _ (λ short. after (only_if (has_id s) _) _ (λ left. refl)))
+
+show : (s : State) (caller : Caller) (id : Option Id) (t : ℕ) → HasPhrase (answer_by (shown s caller id t))
+show s caller id t = after (there (secret_at s caller id t)) _ (λ row. tt)
 
 answered : (s : State) (caller : Caller) (op : Op) (t : ℕ) → HasPhrase (answer_to s caller op t)
-answered s caller (PostSecret (Ok body)) t = posted (is_short_name body.name) (has_id s) (next_id s)
-answered s caller (PostSecret (Err refusal)) t = tt
-answered s caller (GetSecret id) t = found (secret_at s caller id t)
+answered s caller (PostSecret body) t = post s caller body t
+answered s caller (GetSecret id accept) t = show s caller id t
+answered s caller op t = tt
 
 pub asked_phrase : (s : State) (request : Request) (t : ℕ) → HasPhrase (asked_answer s request t)
 asked_phrase s (Asking caller op) t = answered s caller op t

@@ -26,12 +26,12 @@ use Rattle.kms_http.specs.Stream.{Served}
 use Rattle.kms_http.specs.declared.fault.FaultReply.TheVariants.{F1}
 use Rattle.kms_serve.specs.Events.{event}
 use Rattle.kms_serve.specs.Owed.{Waits, Responds, Settled, Prepares, owed_bytes, is_fault, steps_at}
-use Rattle.kms_serve.specs.StoreCalls.{store_failed, OnlyFiles}
+use Rattle.kms_serve.specs.StoreCalls.{store_failed, IsUnfailedBefore, OnlyFiles}
 use Rattle.kms_serve.specs.Turns.{CanServe}
 use Rattle.kms_serve.specs.declared.owed.Owed.{Owed}
 use Rattle.kms_serve.proofs.CrashLaws.{same_told, same_took, same_gave_all, settled_same, settled_stands}
-use Rattle.kms_serve.proofs.ToldLaws.{tells_both, tells_idle}
-use Rattle.kms_serve.proofs.StoreCallLaws.{only_files, failed_since, same_by_files}
+use Rattle.kms_host.proofs.ToldLaws.{tells_both, tells_idle}
+use Rattle.kms_serve.proofs.StoreCallLaws.{only_files, failed_since, failed_once, same_by_files}
 
 -- what settling promises, as its contract says it
 abbrev pub SettleClause : {T E : Type 0} → (then after : Held) → Result T E → (was now : History) → Type 0
@@ -45,6 +45,7 @@ pub record Calls (before after : Held) (steps more : ℕ) (failed : Bool) (mid n
   pub only : OnlyFiles on_files
   pub idle : more ≡ 0 → on_files ≡ []
   pub fails : store_failed on_files ≡ failed
+  pub unfailed : IsUnfailedBefore on_files
   pub settled : Settled before after steps more failed mid on_files
 
 -- no step waits where their number is 0
@@ -97,6 +98,7 @@ module _ (before then after : Held) (steps more : ℕ) (mid now : History) (s : 
         only = only;
         idle = λ none. no_calls mid t.more (sym t.extends ∙ uncalled (idle_then none));
         fails = failed_since mid t.more false (subst (Fails false mid) t.extends fails);
+        unfailed = failed_once mid t.more false (subst (Fails false mid) t.extends fails);
         settled = record {
           each = moments t.more t.each;
           done = λ well. settled_now idle t.more t.extends k.done;
@@ -113,6 +115,7 @@ module _ (before then after : Held) (steps more : ℕ) (mid now : History) (s : 
         only = only;
         idle = λ none. no_calls mid t.more (sym t.extends ∙ uncalled (idle_then none));
         fails = failed_since mid t.more true (subst (Fails true mid) t.extends fails);
+        unfailed = failed_once mid t.more true (subst (Fails true mid) t.extends fails);
         settled = record {
           each = moments t.more t.each;
           done = λ well. absurd (false≢true (sym well));
@@ -165,6 +168,7 @@ prepared endpoint before then after sv n time owed final failed r same fault wel
         only = f.only;
         idle = f.idle;
         failed = f.fails ∙ sym fault;
+        unfailed = f.unfailed;
         reply_is = λ not. ap owed_bytes (well (sym fault ∙ not)) ∙ r.reply_is;
         fault_is = λ is. bad (sym fault ∙ is);
         state = same ∙ r.state;

@@ -1,11 +1,15 @@
 -- Runs that the theorem refuses: from each wrong list of calls, the newest first, and the theorem follows anything.
 use Rattle.std.proofs.lemmas.List.{same_from_push}
-use Rattle.std.proofs.Common.{◌≡◌, ℕ, ◌+◌, ◌<◌, List, [], ◌∷◌, ◌++◌, length, take, true, false, Option, Some, None, Result, refl, ap, subst, arith, length-append, inl, inr}
+use Rattle.std.specs.Prelude.{◌||◌}
+use Rattle.std.proofs.Common.{◌≡◌, ℕ, ◌+◌, ◌<◌, List, [], ◌∷◌, ◌++◌, length, take, Bool, true, false, Option, Some, None, Result, Ok, refl, sym, ap, ◌∙◌, subst, arith, length-append, inl, inr}
 use Rattle.kms_host.specs.declared.call.Call.{Call}
 use Rattle.kms_host.specs.Disk.{files, IsImage}
 use Rattle.kms_host.specs.History.{History}
 use Rattle.kms_host.specs.Line.{sent}
-use Rattle.kms_host.specs.declared.call.Call.TheVariants.{Attached, Took, Gave, Shut}
+use Rattle.kms_host.specs.Store.{file_call_failed}
+use Rattle.kms_host.specs.declared.call.Call.TheVariants.{Attached, Took, Gave, Shut, OnFile}
+use Rattle.kms_host.specs.declared.call.FileCall.{FileCall}
+use Rattle.kms_host.specs.declared.call.FileCall.TheVariants.{Synced}
 use Rattle.kms_host.specs.declared.call.NameFault.{NameFault}
 use Rattle.kms_journal.specs.Device.{IsQuietStore}
 use Rattle.kms_core.specs.Stands.{Stands}
@@ -116,6 +120,18 @@ replies_too_early endpoint b s calls image c quiet is stands begun stores =
     let h = (at_the_end endpoint b s calls c).safe.images quiet image is in
     let one = one_state image b.first (state_by b.first (take h.count (events calls)) c.marks) b.steps (b.steps + steps_by b.first (take h.count (events calls)) c.marks) stands h.stands in
     omega (arith, h.acknowledged 0 0 begun, stores, one.1)
+
+-- it calls a file after a call of a file that failed
+pub goes_on_after_a_fault : (endpoint : List ℕ) (b : RunStart) (s : Status) (f g : ℕ) (c d : FileCall) (calls : List Call) → file_call_failed c ≡ true
+    → Serves endpoint b s (OnFile g d ∷ OnFile f c ∷ calls) → ⊥
+goes_on_after_a_fault endpoint b s f g c d calls failed k =
+    let sound : (file_call_failed c || store_failed calls) ≡ false = (at_the_end endpoint b s (OnFile g d ∷ OnFile f c ∷ calls) k).in_turn.unfailed in
+    let no : true ≡ false = sym (ap (λ (x : Bool). x || store_failed calls) failed) ∙ sound in cc
+
+-- it tries again a sync that failed while its store was opened
+pub syncs_again : (endpoint : List ℕ) (b : RunStart) (s : Status) (store : List ℕ)
+    → Serves endpoint b s (OnFile 0 (Synced false) ∷ OnFile 0 (Synced false) ∷ Attached store (Ok tt) ∷ []) → ⊥
+syncs_again endpoint b s store = goes_on_after_a_fault endpoint b s 0 0 (Synced false) (Synced false) (Attached store (Ok tt) ∷ []) refl
 
 -- it ends well and leaves a request's step behind
 pub ends_without_a_step : (endpoint : List ℕ) (b : RunStart) (calls : List Call) → (c : Serves endpoint b status.Done calls) → Stands (files (history b calls)) b.first b.steps

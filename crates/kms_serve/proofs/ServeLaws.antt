@@ -13,7 +13,7 @@ use Rattle.kms_serve.specs.RunStart.{run_start, FromStore}
 use Rattle.kms_serve.specs.Init.{IsInitDone, IsInitStatus}
 use Rattle.kms_serve.specs.Opening.{BeginsWith, IsOpening, Opens, IsRefusalStatus}
 use Rattle.kms_serve.specs.Owing.{GoodAt}
-use Rattle.kms_serve.specs.Theorem.{Answers, Carries, IsPipeStatus, IsUnfaulted}
+use Rattle.kms_serve.specs.Theorem.{RunPromise, Carries, IsPipeStatus, IsUnfaulted}
 use Rattle.kms_serve.specs.Turns.{Good, HasEnded, CanServe, IsServedEnd, serving_of}
 use Rattle.kms_serve.specs.Words.{Pipe, store_of, endpoint_of}
 use Rattle.kms_serve.specs.declared.status.Status.{Status}
@@ -22,7 +22,7 @@ use Rattle.kms_serve.proofs.CrashLaws.{settled_stands}
 use Rattle.kms_serve.proofs.EndLaws.{serves}
 use Rattle.kms_serve.proofs.EventLaws.{after-first}
 use Rattle.kms_serve.proofs.GiveLaws.{on_line-nil}
-use Rattle.kms_serve.proofs.ToldLaws.{since_both}
+use Rattle.kms_host.proofs.ToldLaws.{since_both}
 use Rattle.kms_serve.proofs.OpeningLaws.{answered_as_before, before_all, good_opened, ended_unopened}
 
 -- an engine that can serve begins well, from any moment
@@ -153,7 +153,7 @@ no_draw_pipe s h e = subst IsPipeStatus e h
 
 -- What the words say, and what the run promises for them.
 pub answers_pipe : {a c : Option History} (create : Option (List ℕ)) (serve : Option Pipe) (store endpoint : List ℕ) (s : Status) → None ≡ create → Some store ≡ store_of serve → Some endpoint ≡ endpoint_of serve
-    → IsPipeStatus s → Since a c (λ was calls. Carries endpoint store s was calls) → Answers create serve a c s
+    → IsPipeStatus s → Since a c (λ was calls. Carries endpoint store s was calls) → RunPromise create serve a c s
 answers_pipe (Some name) serve store endpoint s no_create is_store is_endpoint ends k = absurd (cc)
 answers_pipe None None store endpoint s no_create is_store is_endpoint ends k = absurd (cc)
 answers_pipe None (Some words) store endpoint s no_create is_store is_endpoint ends k = (

@@ -1,5 +1,6 @@
 -- Each turn answers a message or takes a byte, and a line has no more of both than a bound.
-use Rattle.std.proofs.Common.{◌≡◌, ℕ, ◌+◌, ◌*◌, ◌≤◌, ◌<◌, List, [], ◌++◌, length, Bool, ap, ◌∙◌, arith, length-append}
+use Rattle.std.proofs.Common.{◌≡◌, ℕ, ◌+◌, ◌*◌, ◌≤◌, ◌<◌, List, [], ◌++◌, length, take, drop, Bool, ap, ◌∙◌, arith, length-append, length-drop}
+use Rattle.std.proofs.lemmas.List.{length-take-le}
 use Rattle.kms_http.specs.Reading.{Reading}
 use Rattle.kms_http.specs.Stream.{front, longest}
 use Rattle.kms_http.specs.Stream.Front.{Whole, Part}
@@ -45,3 +46,10 @@ bounded_first s reader count =
     let held : length s.reader.held ≡ 0 = ap (λ (r : Reading). length r.held) reader in
     let passed : s.reader.passed ≡ 0 = ap (λ (r : Reading). r.passed) reader in
     record { few = omega (arith, count); passed = omega (arith, passed); held = omega (arith, held) }
+
+-- a buffer that was lent to a call and came back has its length
+pub buffer_length : (len : ℕ) (lent items : List ℕ) → len ≡ length items → length lent ≡ length items → length items ≡ 65536
+    → length (take len (lent ++ drop (length lent) items)) ≡ 65536
+buffer_length len lent items count same size =
+    length-take-le len (lent ++ drop (length lent) items) (omega (arith, count, same, size, length-append lent (drop (length lent) items), length-drop (length lent) items))
+    ∙ omega (arith, count, size)

@@ -15,13 +15,13 @@ use Rattle.kms_serve.specs.StoreCalls.{store_failed}
 -- that was acknowledged, so that a byte of its reply was sent, and each before it, is held: if more was sent on a line than
 -- the replies there to the first k events, the files have the steps of the first k + 1 at least. Where a call of the store
 -- failed, the newest event isn't among them: what is sent for it is the fault.
-pub record Holds (endpoint : List ℕ) (b : RunStart) (marks : List Mark) (calls : List Call) (image : List ℕ × List ℕ) : Type 0 where
+pub record Holds (endpoint : List ℕ) (start : RunStart) (marks : List Mark) (calls : List Call) (image : List ℕ × List ℕ) : Type 0 where
   pub count : ℕ
   pub within : count ≤ length (events calls)
-  pub stands : Stands image (state_by b.first (take count (events calls)) marks) (b.steps + steps_by b.first (take count (events calls)) marks)
-  pub acknowledged : (line k : ℕ) → length (replies line endpoint b.first (take k (answered_of (store_failed calls) (events calls))) marks) < length (sent line calls)
-      → steps_by b.first (take (k + 1) (answered_of (store_failed calls) (events calls))) marks ≤ steps_by b.first (take count (events calls)) marks
+  pub stands : Stands image (state_by start.first (take count (events calls)) marks) (start.steps + steps_by start.first (take count (events calls)) marks)
+  pub acknowledged : (line k : ℕ) → length (replies line endpoint start.first (take k (answered_of (store_failed calls) (events calls))) marks) < length (sent line calls)
+      → steps_by start.first (take (k + 1) (answered_of (store_failed calls) (events calls))) marks ≤ steps_by start.first (take count (events calls)) marks
 
 -- So do all files that a stop may leave, if nothing was pending when the run began.
-pub record IsSafe (endpoint : List ℕ) (b : RunStart) (marks : List Mark) (calls : List Call) : Type 0 where
-  pub images : IsQuietStore b.was → (image : List ℕ × List ℕ) → IsImage (history b calls) image → Holds endpoint b marks calls image
+pub record IsSafe (endpoint : List ℕ) (start : RunStart) (marks : List Mark) (calls : List Call) : Type 0 where
+  pub images : IsQuietStore start.was → (image : List ℕ × List ℕ) → IsImage (history start calls) image → Holds endpoint start marks calls image

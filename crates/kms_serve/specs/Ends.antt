@@ -1,9 +1,9 @@
 -- How a run ends.
 use Rattle.std.specs.Prelude.{◌≡◌, ◌⊎◌, ℕ, ◌+◌, ◌<◌, List, [], ◌∷◌, length, true, false, Some, None}
-use Rattle.kms_host.specs.Disk.{files}
+use Rattle.kms_host.specs.Disk.{files, IsImage}
 use Rattle.kms_host.specs.Line.{taken, sent, at_end, failed_on}
 use Rattle.kms_host.specs.declared.call.Call.{Call}
-use Rattle.kms_host.specs.declared.call.Call.TheVariants.{Text, Attached, Took, Gave, Shut, OnFile, Told, Drew}
+use Rattle.kms_host.specs.declared.call.Call.TheVariants.{Text, Listened, Came, Attached, Took, Gave, Shut, OnFile, Told, Drew}
 use Rattle.kms_journal.specs.Device.{IsQuietStore}
 use Rattle.kms_core.specs.Stands.{Stands}
 use Rattle.kms_model.specs.declared.event.Mark.{Mark}
@@ -19,13 +19,15 @@ use Rattle.kms_serve.specs.declared.status.Status.TheVariants as status
 
 -- on each line all replies were given whole, and nothing else
 abbrev pub AllGiven : (endpoint : List ℕ) → RunStart → List Mark → List Call → Type 0
-AllGiven endpoint b marks calls = (line : ℕ) → sent line calls ≡ replies line endpoint b.first (events calls) marks
+AllGiven endpoint start marks calls = (line : ℕ) → sent line calls ≡ replies line endpoint start.first (events calls) marks
 
--- The store stands for the state after all events, and has their steps, and no call of it failed. Nothing is pending, if
--- nothing was when the run began.
-pub record AllKept (b : RunStart) (marks : List Mark) (calls : List Call) : Type 0 where
-  pub stands : Stands (files (history b calls)) (state_by b.first (events calls) marks) (b.steps + steps_by b.first (events calls) marks)
-  pub quiet : IsQuietStore b.was → IsQuietStore (history b calls)
+-- The store stands for the state after all events, and has their steps, and no call of it failed. If nothing was pending when
+-- the run began, nothing is, and each crash image stands for that state and has those steps.
+pub record AllKept (start : RunStart) (marks : List Mark) (calls : List Call) : Type 0 where
+  pub stands : Stands (files (history start calls)) (state_by start.first (events calls) marks) (start.steps + steps_by start.first (events calls) marks)
+  pub quiet : IsQuietStore start.was → IsQuietStore (history start calls)
+  pub images : IsQuietStore start.was → (image : List ℕ × List ℕ) → IsImage (history start calls) image
+      → Stands image (state_by start.first (events calls) marks) (start.steps + steps_by start.first (events calls) marks)
   pub unfailed : store_failed calls ≡ false
 
 -- The line was read to its end, and the bytes behind its last message are a part of one, which begins at this place.
@@ -56,6 +58,8 @@ EndsClean calls =
 abbrev pub EndsFailed : ℕ → List Call → Type 0
 EndsFailed line [] = ⊥
 EndsFailed line (Text name room bytes ∷ calls) = ⊥
+EndsFailed line (Listened address done ∷ calls) = ⊥
+EndsFailed line (Came next ∷ calls) = ⊥
 EndsFailed line (Attached name done ∷ calls) = ⊥
 EndsFailed line (Took l room (Some bytes) ∷ calls) = ⊥
 EndsFailed line (Took l room None ∷ calls) = l ≡ line
@@ -68,9 +72,9 @@ EndsFailed line (Drew purpose bytes ∷ calls) = ⊥
 
 -- A call of the store failed. Whole replies were given to all events but the newest, and the fault of the store for that, on
 -- its line; or there was no event, or a call of the line failed after that.
-pub record EndsFaulted (endpoint : List ℕ) (b : RunStart) (marks : List Mark) (calls : List Call) : Type 0 where
+pub record EndsFaulted (endpoint : List ℕ) (start : RunStart) (marks : List Mark) (calls : List Call) : Type 0 where
   pub failed : store_failed calls ≡ true
-  pub given : ((line : ℕ) → sent line calls ≡ due line endpoint b.first (events calls) marks true) ⊎ EndsFailed 0 calls
+  pub given : ((line : ℕ) → sent line calls ≡ due line endpoint start.first (events calls) marks true) ⊎ EndsFailed 0 calls
 
 -- the line goes on behind the messages that were answered
 abbrev pub IsUnfinished : List Call → Type 0
@@ -80,6 +84,8 @@ IsUnfinished calls = (rest : List ℕ) × (after most (length (events calls)) (t
 abbrev pub EndsShut : List Call → Type 0
 EndsShut [] = ⊥
 EndsShut (Text name room bytes ∷ calls) = ⊥
+EndsShut (Listened address done ∷ calls) = ⊥
+EndsShut (Came line ∷ calls) = ⊥
 EndsShut (Attached name done ∷ calls) = ⊥
 EndsShut (Took l room bytes ∷ calls) = ⊥
 EndsShut (Gave l piece went ∷ calls) = ⊥
@@ -90,14 +96,14 @@ EndsShut (Drew purpose bytes ∷ calls) = ⊥
 
 -- What a status says of the calls of the run.
 abbrev pub IsEnd : (endpoint : List ℕ) → RunStart → List Mark → Status → List Call → Type 0
-IsEnd endpoint b marks status.Done calls = AllGiven endpoint b marks calls × AllKept b marks calls × EndsClean calls × EndsShut calls
-IsEnd endpoint b marks (status.Rest place) calls = AllGiven endpoint b marks calls × AllKept b marks calls × EndsInside place calls × EndsShut calls
-IsEnd endpoint b marks (status.Unreadable place) calls = AllGiven endpoint b marks calls × AllKept b marks calls × EndsUnreadable place calls × EndsShut calls
-IsEnd endpoint b marks status.NoMemory calls = AllGiven endpoint b marks calls × IsUnfinished calls × (at_end 0 calls ≡ false) × (failed_on 0 calls ≡ false) × (store_failed calls ≡ false)
-IsEnd endpoint b marks status.LinkFault calls = EndsFailed 0 calls × AllKept b marks calls × (at_end 0 calls ≡ false)
-IsEnd endpoint b marks status.StoreFault calls = EndsFaulted endpoint b marks calls × (at_end 0 calls ≡ false)
-IsEnd endpoint b marks status.Words calls = ⊥
-IsEnd endpoint b marks status.NoStore calls = ⊥
-IsEnd endpoint b marks status.StoreExists calls = ⊥
-IsEnd endpoint b marks status.DrawFault calls = ⊥
-IsEnd endpoint b marks (status.Damaged place) calls = ⊥
+IsEnd endpoint start marks status.Done calls = AllGiven endpoint start marks calls × AllKept start marks calls × EndsClean calls × EndsShut calls
+IsEnd endpoint start marks (status.Rest place) calls = AllGiven endpoint start marks calls × AllKept start marks calls × EndsInside place calls × EndsShut calls
+IsEnd endpoint start marks (status.Unreadable place) calls = AllGiven endpoint start marks calls × AllKept start marks calls × EndsUnreadable place calls × EndsShut calls
+IsEnd endpoint start marks status.NoMemory calls = AllGiven endpoint start marks calls × IsUnfinished calls × (at_end 0 calls ≡ false) × (failed_on 0 calls ≡ false) × (store_failed calls ≡ false)
+IsEnd endpoint start marks status.LinkFault calls = EndsFailed 0 calls × AllKept start marks calls × (at_end 0 calls ≡ false)
+IsEnd endpoint start marks status.StoreFault calls = EndsFaulted endpoint start marks calls × (at_end 0 calls ≡ false)
+IsEnd endpoint start marks status.Words calls = ⊥
+IsEnd endpoint start marks status.NoStore calls = ⊥
+IsEnd endpoint start marks status.StoreExists calls = ⊥
+IsEnd endpoint start marks status.DrawFault calls = ⊥
+IsEnd endpoint start marks (status.Damaged place) calls = ⊥

@@ -3,7 +3,7 @@ use Rattle.std.specs.Prelude.{ℕ, min, List, [], ◌∷◌, ◌++◌, length, B
 use Rattle.std.specs.Option.{option_to_list}
 use Rattle.kms_host.specs.Line.{taken, failed_on}
 use Rattle.kms_host.specs.declared.call.Call.{Call}
-use Rattle.kms_host.specs.declared.call.Call.TheVariants.{Text, Attached, Took, Gave, Shut, OnFile, Told, Drew}
+use Rattle.kms_host.specs.declared.call.Call.TheVariants.{Text, Listened, Came, Attached, Took, Gave, Shut, OnFile, Told, Drew}
 use Rattle.kms_http.specs.Stream.{Served, served_at, is_last}
 
 -- the line is served up to this number of requests
@@ -33,6 +33,8 @@ event_at n bytes t = option_to_list (option_map (event n t) (served_at most n by
 abbrev pub events : List Call → List LineEvent
 events [] = []
 events (Text name room bytes ∷ calls) = events calls
+events (Listened address done ∷ calls) = events calls
+events (Came line ∷ calls) = events calls
 events (Attached name done ∷ calls) = events calls
 events (Took line room bytes ∷ calls) = events calls
 events (Gave line piece went ∷ calls) = events calls

@@ -4,7 +4,8 @@ use Rattle.std.specs.Int.{w64, from_be_bytes}
 use Rattle.kms_host.specs.Disk.{disk, files, IsImage}
 use Rattle.kms_host.specs.History.{History, then_call}
 use Rattle.kms_host.specs.Moment.{AtEach, then_calls}
-use Rattle.kms_host.specs.Store.{apart_from_files, failed_store_calls}
+use Rattle.kms_host.specs.Line.{IsOpen}
+use Rattle.kms_host.specs.Store.{apart_from_files, failed_store_calls, OnlyAttached}
 use Rattle.kms_host.specs.declared.call.Call.{Call}
 use Rattle.kms_host.specs.declared.call.Call.TheVariants.{Attached, Drew}
 use Rattle.kms_host.specs.declared.call.Failed.{Failed}
@@ -13,11 +14,12 @@ use Rattle.kms_host.specs.declared.call.NameFault.TheVariants as names
 use Rattle.kms_host.specs.declared.call.Purpose.TheVariants.{Tag}
 use Rattle.kms_world.specs.State.{empty_state}
 use Rattle.kms_journal.specs.Create.{fresh}
-use Rattle.kms_journal.specs.Device.{IsQuietStore}
+use Rattle.kms_journal.specs.Device.{IsQuiet, IsQuietStore}
 use Rattle.kms_journal.specs.Standing.{Standing, standing_of}
 use Rattle.kms_journal.specs.declared.fault.CreateFault.{CreateFault}
 use Rattle.kms_journal.specs.declared.fault.CreateFault.TheVariants as creation
 use Rattle.kms_core.specs.Stands.{Stands}
+use Rattle.kms_serve.specs.StoreCalls.{IsUnfailedBefore}
 use Rattle.kms_serve.specs.declared.status.Status.{Status}
 use Rattle.kms_serve.specs.declared.status.Status.TheVariants as status
 
@@ -52,11 +54,6 @@ naming store done = Attached store done ∷ []
 abbrev pub drawing : List ℕ → Option (List ℕ) → List Call
 drawing store bytes = Drew Tag bytes ∷ Attached store (Ok tt) ∷ []
 
--- There were no others: nothing was taken, given or shut, and no time told.
-abbrev pub IsAlone : List ℕ → List Call → Type 0
-IsAlone store apart =
-    (apart ≡ []) ⊎ ((done : Result (Unit {0}) NameFault) × (apart ≡ naming store done)) ⊎ ((bytes : Option (List ℕ)) × (apart ≡ drawing store bytes))
-
 -- the files are as before, and what is pending on them
 abbrev pub AreAsBefore : History → List Call → Type 0
 AreAsBefore was calls = (f : ℕ) → disk f (then_calls was calls) ≡ disk f was
@@ -67,23 +64,35 @@ IsNoStore was = standing_of (files was) ≡ None
 abbrev pub IsStore : History → Type 0
 IsStore was = (s : Standing) × (standing_of (files was) ≡ Some s)
 
--- After some of the calls. Each crash image stands for what the files did before; or there was no store, the eight bytes of
--- a tag were drawn by then, and the image is a fresh store of this tag. A store that was there is left alone.
+-- There were no others: nothing was taken, given or shut, and no time told. A tag is drawn only where there is no store.
+abbrev pub IsAlone : List ℕ → History → List Call → Type 0
+IsAlone store was apart =
+    (apart ≡ [])
+    ⊎ ((done : Result (Unit {0}) NameFault) × (apart ≡ naming store done))
+    ⊎ (IsNoStore was × ((bytes : Option (List ℕ)) × (apart ≡ drawing store bytes)))
+
+-- After some of the calls, of which only the newest may be one of the store that failed. Each crash image stands for what the
+-- files did before; or there was no store, the eight bytes of a tag were drawn by then, and the image is a fresh store of
+-- this tag. A store that was there is left alone.
 pub record IsUnderWay (store : List ℕ) (was : History) (calls : List Call) : Type 0 where
-  pub alone : IsAlone store (apart_from_files calls)
+  pub alone : IsAlone store was (apart_from_files calls)
+  pub unfailed : IsUnfailedBefore calls
   pub images : IsQuietStore was → (image : List ℕ × List ℕ) → IsImage (then_calls was calls) image
       → (standing_of image ≡ standing_of (files was))
       ⊎ (IsNoStore was × ((bytes : List ℕ) × (length bytes ≡ 8) × (apart_from_files calls ≡ drawing store (Some bytes)) × IsFreshStore image (tag_of bytes)))
   pub kept : IsStore was → AreAsBefore was calls
 
--- There was no store. Eight bytes were drawn, and the files as they read now are a fresh store of their tag.
+-- There was no store. Eight bytes were drawn, and the files as they read now are a fresh store of their tag, with nothing
+-- pending on its file. So is each crash image, if nothing was pending when the run began.
 pub record IsCreated (store : List ℕ) (was : History) (calls : List Call) : Type 0 where
   pub none : IsNoStore was
   pub bytes : List ℕ
   pub eight : length bytes ≡ 8
   pub drawn : apart_from_files calls ≡ drawing store (Some bytes)
   pub fresh : IsFreshStore (files (then_calls was calls)) (tag_of bytes)
+  pub rests : IsQuiet 0 (then_calls was calls)
   pub quiet : IsQuietStore was → IsQuietStore (then_calls was calls)
+  pub images : IsQuietStore was → (image : List ℕ × List ℕ) → IsImage (then_calls was calls) image → IsFreshStore image (tag_of bytes)
 
 -- There was no store, drawing its tag failed, and the files are as before.
 pub record IsUndrawn (store : List ℕ) (was : History) (calls : List Call) : Type 0 where
@@ -111,6 +120,15 @@ pub record Inits (store : List ℕ) (s : Status) (was : History) (calls : List C
   pub each : AtEach (IsUnderWay store was) calls
   pub end : IsInitEnd store s was calls
   pub faultless : (s ≡ status.StoreFault → ⊥) → failed_store_calls calls ≡ 0
+
+-- The store of this name can be served: no other was attached, and line 0 is open.
+pub record CanBeServed (store : List ℕ) (h : History) : Type 0 where
+  pub named : OnlyAttached store h.calls
+  pub unshut : IsOpen 0 h
+
+-- After a run of `init` the store can be served over the same host, if it could before.
+abbrev pub IsServedNext : Type 0
+IsServedNext = (store : List ℕ) (s : Status) (was : History) (calls : List Call) → Inits store s was calls → CanBeServed store was → CanBeServed store (then_calls was calls)
 
 -- what creating a store can end with
 abbrev pub IsInitStatus : Status → Type 0

@@ -1,3 +1,4 @@
+pub mod Acknowledged
 pub mod Answered
 pub mod Crash
 pub mod Ends

@@ -13,7 +13,7 @@ use Rattle.kms_core.specs.Starting.{IsRefusal, IsStart}
 use Rattle.kms_core.specs.Steps.{Held}
 use Rattle.kms_core.specs.declared.start_fault.StartFault.{StartFault}
 use Rattle.kms_core.specs.declared.start_fault.StartFault.TheVariants as start
-use Rattle.kms_serve.specs.StoreCalls.{store_failed, OnlyFiles}
+use Rattle.kms_serve.specs.StoreCalls.{store_failed, IsUnfailedBefore, OnlyFiles}
 use Rattle.kms_serve.specs.declared.status.Status.{Status}
 use Rattle.kms_serve.specs.declared.status.Status.TheVariants as status
 
@@ -61,13 +61,14 @@ pub record IsAsBefore (was h : History) : Type 0 where
   pub other : (s : Standing) → standing_of (files was) ≡ Some s → (f : ℕ) → s.file ≢ f → disk f h ≡ disk f was
   pub syncs : syncs h.calls ≤ syncs was.calls + 2
 
--- The store of this name was attached, or not, and then calls were made on its files alone. At each moment it stood for what it
--- stood for before.
+-- The store of this name was attached, or not, and then calls were made on its files alone, none after one that failed. At
+-- each moment it stood for what it stood for before.
 pub record IsOpening (store : List ℕ) (was : History) (calls : List Call) : Type 0 where
   pub done : Result (Unit {0}) NameFault
   pub on_files : List Call
   pub made : calls ≡ on_files ++ Attached store done ∷ []
   pub only : OnlyFiles on_files
+  pub unfailed : IsUnfailedBefore calls
   pub each : AtEach (λ x. IsAsBefore was (then_calls was x)) calls
 
 -- The first call attached the store of this name.

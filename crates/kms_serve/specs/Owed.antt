@@ -4,7 +4,7 @@ use Rattle.kms_host.specs.History.{History, then_call}
 use Rattle.kms_host.specs.Moment.{AtEach, then_calls}
 use Rattle.kms_host.specs.Line.{sent, failed_on}
 use Rattle.kms_host.specs.declared.call.Call.{Call}
-use Rattle.kms_host.specs.declared.call.Call.TheVariants.{Text, Attached, Took, Gave, Shut, OnFile, Told, Drew}
+use Rattle.kms_host.specs.declared.call.Call.TheVariants.{Text, Listened, Came, Attached, Took, Gave, Shut, OnFile, Told, Drew}
 use Rattle.kms_journal.specs.Device.{IsQuietStore}
 use Rattle.kms_core.specs.Settling.{IsSettledOrAll}
 use Rattle.kms_core.specs.Steps.{Held, IsSettled}
@@ -17,7 +17,7 @@ use Rattle.kms_http.specs.declared.fault.FaultReply.TheVariants.{F1, F3}
 use Rattle.kms_serve.specs.Events.{LineEvent, event}
 use Rattle.kms_serve.specs.Replies.{asked, reply_to}
 use Rattle.kms_serve.specs.Ends.{EndsFailed}
-use Rattle.kms_serve.specs.StoreCalls.{store_failed, OnlyFiles}
+use Rattle.kms_serve.specs.StoreCalls.{store_failed, IsUnfailedBefore, OnlyFiles}
 use Rattle.kms_serve.specs.declared.owed.Owed.{Owed}
 use Rattle.kms_serve.specs.declared.owed.Owed.TheVariants.{Reply, OutOfMemory, StoreFault}
 
@@ -57,7 +57,7 @@ pub record Settled (before after : Held) (steps more : ℕ) (failed : Bool) (mid
   pub quiet : failed ≡ false → IsQuietStore mid → IsQuietStore (then_calls mid files)
 
 -- A message was answered: its time was told, its steps were settled by calls on files, and no other call was made. Where one
--- of these failed the fault of the store is owed.
+-- of these failed, which was the last, the fault of the store is owed.
 pub record Prepares (endpoint : List ℕ) (before after : Held) (served : Served) (n : ℕ) (owed : Owed) (was : History) (calls : List Call) : Type 0 where
   pub time : ℕ
   pub mark : Mark
@@ -66,6 +66,7 @@ pub record Prepares (endpoint : List ℕ) (before after : Held) (served : Served
   pub only : OnlyFiles files
   pub idle : steps_at before (event n time served) mark ≡ 0 → files ≡ []
   pub failed : store_failed files ≡ is_fault owed
+  pub unfailed : IsUnfailedBefore files
   pub reply_is : is_fault owed ≡ false → owed_bytes owed ≡ reply_to endpoint (event n time served) (answer_at before.state (asked (event n time served)) mark)
   pub fault_is : is_fault owed ≡ true → owed_bytes owed ≡ fault_reply_of F1
   pub state : after.state ≡ state_at before.state (asked (event n time served)) mark
@@ -83,6 +84,8 @@ pub record IsLeft (line : ℕ) (bytes : List ℕ) (l : ℕ) (piece : List ℕ) (
 abbrev pub OnlyLeft : ℕ → List ℕ → List Call → Type 0
 OnlyLeft line bytes [] = Unit {0}
 OnlyLeft line bytes (Text name room text ∷ calls) = ⊥
+OnlyLeft line bytes (Listened address done ∷ calls) = ⊥
+OnlyLeft line bytes (Came next ∷ calls) = ⊥
 OnlyLeft line bytes (Attached name done ∷ calls) = ⊥
 OnlyLeft line bytes (Took l room taken ∷ calls) = ⊥
 OnlyLeft line bytes (Gave l piece went ∷ calls) = IsLeft line bytes l piece calls × OnlyLeft line bytes calls

@@ -24,17 +24,17 @@ on_line line bytes = if 0 == line then bytes else []
 -- The theorem holds at each moment so far, the program's state is that of the plain key manager, and so is what the store
 -- stands for. The stream stands so behind the messages that were answered, and these bytes of their replies are prepared
 -- and not given yet.
-pub record OwingAt (endpoint : List ℕ) (b : RunStart) (s : Serving) (stand : After) (owed : List ℕ) (calls : List Call) : Type 0 where
+pub record OwingAt (endpoint : List ℕ) (start : RunStart) (s : Serving) (stand : After) (owed : List ℕ) (calls : List Call) : Type 0 where
   pub marks : List Mark
-  pub each : AtEach (Answered endpoint b marks) calls
+  pub each : AtEach (Answered endpoint start marks) calls
   pub marked : length (events calls) ≡ length marks
   pub counted : s.count ≡ length (events calls)
-  pub state : s.engine.state ≡ state_by b.first (events calls) marks
-  pub settled : IsSettled s.engine (b.steps + steps_by b.first (events calls) marks) (history b calls)
-  pub quiet : IsQuietStore b.was → IsQuietStore (history b calls)
+  pub state : s.engine.state ≡ state_by start.first (events calls) marks
+  pub settled : IsSettled s.engine (start.steps + steps_by start.first (events calls) marks) (history start calls)
+  pub quiet : IsQuietStore start.was → IsQuietStore (history start calls)
   pub held : after most s.count (taken 0 calls) ≡ Some stand
   pub place : s.reader.passed + length s.reader.held ≡ length (taken 0 calls)
-  pub owes : (line : ℕ) → replies line endpoint b.first (events calls) marks ≡ sent line calls ++ on_line line owed
+  pub owes : (line : ℕ) → replies line endpoint start.first (events calls) marks ≡ sent line calls ++ on_line line owed
   pub unfinished : at_end 0 calls ≡ false
   pub sound : failed_on 0 calls ≡ false
   pub unshut : is_shut 0 calls ≡ false
@@ -42,11 +42,11 @@ pub record OwingAt (endpoint : List ℕ) (b : RunStart) (s : Serving) (stand : A
 
 -- between two turns nothing is owed, and the line goes on with the bytes that the reader holds
 abbrev pub GoodAt : (endpoint : List ℕ) → RunStart → Serving → List Call → Type 0
-GoodAt endpoint b s calls = OwingAt endpoint b s (Going s.reader.held) [] calls
+GoodAt endpoint start s calls = OwingAt endpoint start s (Going s.reader.held) [] calls
 
 -- after the last turn
-pub record EndedAt (endpoint : List ℕ) (b : RunStart) (s : Status) (calls : List Call) : Type 0 where
+pub record EndedAt (endpoint : List ℕ) (start : RunStart) (s : Status) (calls : List Call) : Type 0 where
   pub marks : List Mark
-  pub each : AtEach (Answered endpoint b marks) calls
+  pub each : AtEach (Answered endpoint start marks) calls
   pub marked : length (events calls) ≡ length marks
-  pub end : IsEnd endpoint b marks s calls
+  pub end : IsEnd endpoint start marks s calls

@@ -6,8 +6,8 @@ use Rattle.kms_world.specs.declared.refusal.Refusal.TheVariants.{BadMessage}
 use Rattle.kms_model.specs.Run.{answers_of, state_of, steps_of}
 use Rattle.kms_model.specs.declared.event.Event.{Event}
 use Rattle.kms_model.specs.declared.event.Mark.{Mark}
-use Rattle.kms_model.specs.declared.event.Request.{Request}
-use Rattle.kms_model.specs.declared.event.Request.TheVariants as request
+use Rattle.kms_world.specs.declared.operation.Request.{Request}
+use Rattle.kms_world.specs.declared.operation.Request.TheVariants as request
 use Rattle.kms_http.specs.Stream.{Served}
 use Rattle.kms_http.specs.Stream.Served.{Asking, Unreadable}
 use Rattle.kms_http.specs.Reply.{printed, fault_reply_of}

@@ -18,7 +18,7 @@ pub record RunStart : Type 0 where
 
 -- what is told after these calls of the run
 abbrev pub history : RunStart → List Call → History
-history b calls = then_calls b.was calls
+history start calls = then_calls start.was calls
 
 abbrev pub run_start : (store : List ℕ) → History → State → (steps : ℕ) → RunStart
 run_start store was first steps = record { store = store; was = was; first = first; steps = steps }

@@ -1,18 +1,24 @@
 -- What the calls of a run say of the store, beside what its files hold.
-use Rattle.std.specs.Prelude.{List, [], ◌∷◌, Bool, false, ◌||◌}
+use Rattle.std.specs.Prelude.{◌≡◌, List, [], ◌∷◌, drop, Bool, false, ◌||◌}
 use Rattle.kms_host.specs.Store.{store_call_failed}
 use Rattle.kms_host.specs.declared.call.Call.{Call}
-use Rattle.kms_host.specs.declared.call.Call.TheVariants.{Text, Attached, Took, Gave, Shut, OnFile, Told, Drew}
+use Rattle.kms_host.specs.declared.call.Call.TheVariants.{Text, Listened, Came, Attached, Took, Gave, Shut, OnFile, Told, Drew}
 
 -- a call of the store failed
 abbrev pub store_failed : List Call → Bool
 store_failed [] = false
 store_failed (c ∷ calls) = store_call_failed c || store_failed calls
 
+-- No call of the store failed before the newest call.
+abbrev pub IsUnfailedBefore : List Call → Type 0
+IsUnfailedBefore calls = store_failed (drop 1 calls) ≡ false
+
 -- nothing but calls on files
 abbrev pub OnlyFiles : List Call → Type 0
 OnlyFiles [] = Unit {0}
 OnlyFiles (Text name room bytes ∷ calls) = ⊥
+OnlyFiles (Listened address done ∷ calls) = ⊥
+OnlyFiles (Came line ∷ calls) = ⊥
 OnlyFiles (Attached name done ∷ calls) = ⊥
 OnlyFiles (Took line room bytes ∷ calls) = ⊥
 OnlyFiles (Gave line piece went ∷ calls) = ⊥

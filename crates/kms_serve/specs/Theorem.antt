@@ -31,12 +31,12 @@ pub record Exact (s : Status) (calls : List Call) (whole : Type 0) : Type 0 wher
 -- the plain key manager answers, or a constant reply where a request was out of memory, and for the newest where a call of
 -- the store failed. And what a stop leaves of the store, if nothing was pending when the run began, stands for the plain key
 -- manager's state after a number of these requests that holds each one that was acknowledged.
-pub record Serves (endpoint : List ℕ) (b : RunStart) (s : Status) (calls : List Call) : Type 0 where
+pub record Serves (endpoint : List ℕ) (start : RunStart) (s : Status) (calls : List Call) : Type 0 where
   pub marks : List Mark
-  pub each : (moment : ℕ) → moment ≤ length calls → Answered endpoint b marks (by_moment moment calls)
+  pub each : (moment : ℕ) → moment ≤ length calls → Answered endpoint start marks (by_moment moment calls)
   pub marked : length (events calls) ≡ length marks
-  pub end : IsEnd endpoint b marks s calls
-  pub exact : Exact s calls (AllGiven endpoint b marks calls)
+  pub end : IsEnd endpoint start marks s calls
+  pub exact : Exact s calls (AllGiven endpoint start marks calls)
 
 -- the files stand for no state
 abbrev pub StandForNone : List ℕ × List ℕ → Type 0
@@ -46,15 +46,15 @@ StandForNone two = (first : State) (steps : ℕ) → Stands two first steps → 
 -- the run is refused, and what a stop leaves stands for what the files did, if nothing was pending when the run began.
 pub record Carries (endpoint store : List ℕ) (s : Status) (was : History) (calls : List Call) : Type 0 where
   pub attached : BeginsWith store calls
-  pub serves : FromStore store was (λ b. Serves endpoint b s calls)
+  pub serves : FromStore store was (λ start. Serves endpoint start s calls)
   pub refuses : StandForNone (files was) → IsUnopened store s was calls
 
 -- What a run promises for its words: those that create a store, or those that serve one. Where they are neither, that is the
 -- status, and no call was made.
-abbrev pub Answers : (create : Option (List ℕ)) → (serve : Option Pipe) → (before after : Option History) → Status → Type 0
-Answers (Some store) serve before after s = (s ≡ status.Words → ⊥) × Since before after (λ was calls. Inits store s was calls)
-Answers None (Some words) before after s = (s ≡ status.Words → ⊥) × Since before after (λ was calls. Carries words.endpoint words.store s was calls)
-Answers None None before after s = (s ≡ status.Words) × Since before after (λ was calls. calls ≡ [])
+abbrev pub RunPromise : (create : Option (List ℕ)) → (serve : Option Pipe) → (before after : Option History) → Status → Type 0
+RunPromise (Some store) serve before after s = (s ≡ status.Words → ⊥) × Since before after (λ was calls. Inits store s was calls)
+RunPromise None (Some words) before after s = (s ≡ status.Words → ⊥) × Since before after (λ was calls. Carries words.endpoint words.store s was calls)
+RunPromise None None before after s = (s ≡ status.Words) × Since before after (λ was calls. calls ≡ [])
 
 -- what a run that serves a store can end with
 abbrev pub IsPipeStatus : Status → Type 0

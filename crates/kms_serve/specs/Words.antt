@@ -1,5 +1,6 @@
 -- The words of the command line: `init --store NAME`, or `pipe --store NAME --keys NAME --endpoint TEXT`, in this order.
 use Rattle.std.specs.Prelude.{ℕ, List, [], ◌∷◌, Bool, false, not, ◌&&◌, ◌==◌, Option, Some, None, if◌then◌else◌, codes, map, string_bytes, String}
+use Rattle.std.specs.Option.{option_or}
 use Rattle.std.specs.Str.{bytes_eq}
 use Rattle.std.specs.declared.alloc.Global.{Global}
 
@@ -35,6 +36,10 @@ pipe_of _ = None
 abbrev pub store_of : Option Pipe → Option (List ℕ)
 store_of None = None
 store_of (Some words) = Some words.store
+
+-- the store that the words create or serve
+abbrev pub named_store : List (List ℕ) → Option (List ℕ)
+named_store words = option_or (init_of words) (store_of (pipe_of words))
 
 abbrev pub endpoint_of : Option Pipe → Option (List ℕ)
 endpoint_of None = None

@@ -1,9 +1,9 @@
 // Making a store: the command `init`.
-ghost use Rattle.std.specs.Prelude.{◌≡◌, ◌<◌, ◌^◌, IfOk, false};
+ghost use Rattle.std.specs.Prelude.{◌≡◌, ◌<◌, ◌^◌, IfOk};
 ghost use Rattle.kms_host.specs.Faults.{HasCause, NeverFalls, Rose};
 ghost use Rattle.kms_host.specs.History.{Tells, WhereTold, Stops};
 ghost use Rattle.kms_host.specs.Moment.{Since};
-ghost use Rattle.kms_host.specs.Store.{is_attached};
+ghost use Rattle.kms_host.specs.Store.{OnlyAttached};
 ghost use Rattle.kms_host.specs.declared.call.Count.TheVariants as counts;
 ghost use Rattle.kms_serve.specs.Init.{DrawsTag, Inits, IsInitDone, IsInitStatus, tag_of};
 ghost use Rattle.kms_serve.specs.Init as spec;
@@ -59,7 +59,7 @@ fn creation_status(created: Result<(), CreateFault>) -> Status
 /// store failed or it was out of memory before that was known; StoreFault and DrawFault only where such a call failed;
 /// and otherwise Done, or NoMemory.
 pub(crate) fn init_store<H: Host>(store: &str, host: &mut H) -> Status
-    requires { WhereTold (H.history host.old) (λ h. is_attached h.calls ≡ false) }
+    requires { WhereTold (H.history host.old) (λ h. OnlyAttached store.now h.calls) }
 
     // What was done by each moment, and what the status says of it.
     ensures made { Since (H.history host.old) (H.history host.new) (Inits store.now result) }

@@ -4,6 +4,7 @@
 
 mod give;
 mod init;
+pub mod laws;
 mod line;
 mod open;
 mod owed;
@@ -11,8 +12,6 @@ mod prepare;
 mod program;
 mod serving;
 mod status;
-#[cfg(test)]
-mod tests;
 mod words;
 
 pub use program::run;

@@ -7,7 +7,7 @@ ghost use Rattle.kms_host.specs.Moment.{Since};
 ghost use Rattle.kms_http.specs.Stream.{front, longest};
 ghost use Rattle.kms_http.specs.Stream.Front.{Bad, Part};
 ghost use Rattle.kms_serve.specs.Events.{most};
-ghost use Rattle.kms_core.specs.Steps.{IsIdle};
+ghost use Rattle.kms_core.specs.Steps.{IsIdle, IsWorking};
 ghost use Rattle.kms_serve.specs.Owed.{GivesFault, owed_bytes, is_fault};
 ghost use Rattle.kms_serve.specs.Turns.{Good, HasEnded, Left, IsTaken, IsBounded, IsServedEnd, GoesOn, HasCauses, CanServe, serving_of};
 ghost use Rattle.kms_serve.specs.declared.serving.Serving.{Serving as Session};
@@ -20,8 +20,7 @@ use crate::status::Status;
 use kms_core::Engine;
 use kms_host::Host;
 use kms_http::{Read, Reader, Request};
-use kms_model::Request as Asked;
-use kms_world::{NoMemory, Refusal};
+use kms_world::{NoMemory, Refusal, Request as Asked};
 use std::alloc::Global;
 
 /// A line is served up to this number of requests.
@@ -36,10 +35,12 @@ fn take_more<H: Host>(host: &mut H, s: &mut Serving, room: &mut [u8]) -> Turn
     requires part { front s.old.reader.held ≡ Part }
     requires bounded { IsBounded s.old }
     requires idle { IsIdle s.old.engine }
+    requires working { IsWorking s.old.engine }
     requires ready { WhereTold (H.history host.old) (CanServe s.old.engine) }
     ensures good { (endpoint store : List ℕ) (start : Option History) →
         Good endpoint store start (H.history host.old) s.old → Left endpoint store start (H.history host.new) s.new result }
     ensures idle { result ≡ Turn.Went → IsIdle s.new.engine }
+    ensures working { result ≡ Turn.Went → IsWorking s.new.engine }
     ensures ready { result ≡ Turn.Went → WhereTold (H.history host.new) (CanServe s.new.engine) }
     ensures goes { GoesOn s.old s.new result }
     ensures causes { HasCauses (H.faults host.old) (H.faults host.new) result }
@@ -97,10 +98,12 @@ fn serve_request<H: Host>(
     requires passed { s.old.reader.passed ≤ (s.old.count + 1) * longest }
     requires held { length s.old.reader.held ≤ longest + 65536 }
     requires idle { IsIdle s.old.engine }
+    requires working { IsWorking s.old.engine }
     requires ready { WhereTold (H.history host.old) (CanServe s.old.engine) }
     ensures good { (store : List ℕ) (start : Option History) (before : Session) → IsTaken before s.old request close →
         Good endpoint.now store start (H.history host.old) before → Left endpoint.now store start (H.history host.new) s.new result }
     ensures idle { result ≡ Turn.Went → IsIdle s.new.engine }
+    ensures working { result ≡ Turn.Went → IsWorking s.new.engine }
     ensures ready { result ≡ Turn.Went → WhereTold (H.history host.new) (CanServe s.new.engine) }
     ensures goes { GoesOn s.old s.new result }
     ensures causes { HasCauses (H.faults host.old) (H.faults host.new) result }
@@ -136,6 +139,7 @@ fn refuse<H: Host>(alloc: Global, endpoint: &str, host: &mut H, s: &mut Serving)
     requires bad { front s.old.reader.held ≡ Bad }
     requires few { s.old.count < most }
     requires idle { IsIdle s.old.engine }
+    requires working { IsWorking s.old.engine }
     requires ready { WhereTold (H.history host.old) (CanServe s.old.engine) }
     ensures good { (store : List ℕ) (start : Option History) →
         Good endpoint.now store start (H.history host.old) s.old → Left endpoint.now store start (H.history host.new) s.new result }
@@ -175,10 +179,12 @@ fn take_turn<H: Host>(
     requires room { length room.old ≡ 65536 }
     requires bounded { IsBounded s.old }
     requires idle { IsIdle s.old.engine }
+    requires working { IsWorking s.old.engine }
     requires ready { WhereTold (H.history host.old) (CanServe s.old.engine) }
     ensures good { (store : List ℕ) (start : Option History) →
         Good endpoint.now store start (H.history host.old) s.old → Left endpoint.now store start (H.history host.new) s.new result }
     ensures idle { result ≡ Turn.Went → IsIdle s.new.engine }
+    ensures working { result ≡ Turn.Went → IsWorking s.new.engine }
     ensures ready { result ≡ Turn.Went → WhereTold (H.history host.new) (CanServe s.new.engine) }
     ensures goes { GoesOn s.old s.new result }
     ensures causes { HasCauses (H.faults host.old) (H.faults host.new) result }
@@ -209,6 +215,7 @@ fn new_room(alloc: Global) -> Result<Vec<u8>, NoMemory>
 /// Serves line 0 from its first byte to its end.
 pub fn serve_line<H: Host>(alloc: Global, endpoint: &str, engine: Engine, host: &mut H) -> Status
     requires idle { IsIdle engine }
+    requires working { IsWorking engine }
     requires ready { WhereTold (H.history host.old) (CanServe engine) }
     ensures ended { (store : List ℕ) (start : Option History) → Good endpoint.now store start (H.history host.old) (serving_of engine)
         → HasEnded endpoint.now store start (H.history host.new) result }

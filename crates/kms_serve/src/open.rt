@@ -1,11 +1,11 @@
 // Opening the store that is served.
-ghost use Rattle.std.specs.Prelude.{◌≡◌, IfOk, IsErrOf, false};
+ghost use Rattle.std.specs.Prelude.{◌≡◌, IfOk, IsErrOf};
 ghost use Rattle.kms_host.specs.Faults.{NeverFalls, Rose};
 ghost use Rattle.kms_host.specs.History.{WhereTold, Stops};
 ghost use Rattle.kms_host.specs.Line.{IsOpen};
 ghost use Rattle.kms_host.specs.Moment.{Since};
-ghost use Rattle.kms_host.specs.Store.{is_attached};
-ghost use Rattle.kms_core.specs.Steps.{IsIdle};
+ghost use Rattle.kms_host.specs.Store.{OnlyAttached};
+ghost use Rattle.kms_core.specs.Steps.{IsIdle, IsWorking};
 ghost use Rattle.kms_core.specs.declared.start_fault.StartFault.TheVariants as start;
 ghost use Rattle.kms_serve.specs.Opening.{Opens, IsRefusalStatus, refusal_of};
 ghost use Rattle.kms_serve.specs.Turns.{CanServe};
@@ -28,11 +28,12 @@ fn refusal(fault: StartFault) -> Status
 
 /// Names the store, and opens it. A refusal leaves it what it was.
 pub fn open_store<H: Host>(alloc: Global, store: &str, host: &mut H) -> Result<Engine, Status>
-    requires store { WhereTold (H.history host.old) (λ h. is_attached h.calls ≡ false) }
+    requires store { WhereTold (H.history host.old) (λ h. OnlyAttached store.now h.calls) }
     requires line { WhereTold (H.history host.old) (IsOpen 0) }
     ensures opens { Since (H.history host.old) (H.history host.new) (λ was calls. Opens store.now result was calls) }
     ensures ready { IfOk result (λ engine. WhereTold (H.history host.new) (CanServe engine)) }
     ensures idle { IfOk result IsIdle }
+    ensures working { IfOk result IsWorking }
     ensures later { NeverFalls (H.faults host.old) (H.faults host.new) }
     ensures cause { IsErrOf result Status.StoreFault → Rose (H.faults host.old).store (H.faults host.new).store }
     ensures refusal { IsRefusalStatus result }

@@ -6,7 +6,7 @@ ghost use Rattle.kms_host.specs.Line.{IsOpen};
 ghost use Rattle.kms_host.specs.Moment.{Since};
 ghost use Rattle.kms_http.specs.Reply.{printed};
 ghost use Rattle.kms_http.specs.Stream.{Served, is_last};
-ghost use Rattle.kms_core.specs.Steps.{Prepares as Leads, IsIdle, IsSpelledBehind};
+ghost use Rattle.kms_core.specs.Steps.{Prepares as Leads, IsIdle, IsWorking, IsSpelledBehind};
 ghost use Rattle.kms_json.specs.Answer.{reply_of};
 ghost use Rattle.kms_model.specs.Run.{asked_answer, asked_state, asked_stores, steps_if};
 ghost use Rattle.kms_serve.specs.Events.{LineEvent, most};
@@ -21,8 +21,7 @@ use kms_core::{Asked, Engine, Step};
 use kms_host::Host;
 use kms_http::print;
 use kms_json::answer as reply_to;
-use kms_model::Request;
-use kms_world::{Answer, Bytes, NoMemory};
+use kms_world::{Answer, Bytes, NoMemory, Request};
 use std::alloc::Global;
 
 // The last second of the year 9999.
@@ -138,6 +137,7 @@ pub fn prepare<H: Host>(
     last: bool,
 ) -> Owed
     requires idle { IsIdle engine.old }
+    requires working { IsWorking engine.old }
     requires ready { WhereTold (H.history host.old) (CanServe engine.old) }
     ensures prepared { (served : Served) (n : ℕ) → request ≡ request_of served → last ≡ is_last most n served
         → Since (H.history host.old) (H.history host.new) (λ was calls.
@@ -145,6 +145,7 @@ pub fn prepare<H: Host>(
     ensures open { WhereTold (H.history host.new) (IsOpen 0) }
     ensures ready { is_fault result ≡ false → WhereTold (H.history host.new) (CanServe engine.new) }
     ensures idle { is_fault result ≡ false → IsIdle engine.new }
+    ensures working { is_fault result ≡ false → IsWorking engine.new }
     ensures later { NeverFalls (H.faults host.old) (H.faults host.new) }
     ensures cause { is_fault result ≡ true → Rose (H.faults host.old).store (H.faults host.new).store }
     ensures stops { Stops (H.wanted host.old) (H.wanted host.new) (H.history host.old) (H.history host.new) }

@@ -1,12 +1,12 @@
 // The top call.
-ghost use Rattle.std.specs.Prelude.{◌≡◌, ◌⊎◌, IsSome, None, false};
+ghost use Rattle.std.specs.Prelude.{◌≡◌, ◌⊎◌, ℕ, List, IsSome, Some, None};
 ghost use Rattle.kms_host.specs.Faults.{NeverFalls, Rose};
 ghost use Rattle.kms_host.specs.History.{WhereTold, Stops};
 ghost use Rattle.kms_host.specs.Line.{IsOpen};
-ghost use Rattle.kms_host.specs.Store.{is_attached};
+ghost use Rattle.kms_host.specs.Store.{OnlyAttached};
 ghost use Rattle.kms_host.specs.Moment.{Since};
 ghost use Rattle.kms_serve.specs.Init.{IsInitStatus};
-ghost use Rattle.kms_serve.specs.Theorem.{Answers, Carries, IsPipeStatus, IsUnfaulted};
+ghost use Rattle.kms_serve.specs.Theorem.{RunPromise, Carries, IsPipeStatus, IsUnfaulted};
 ghost use Rattle.kms_serve.specs.Words as spec;
 
 use crate::init::init_store;
@@ -19,7 +19,7 @@ use std::alloc::Global;
 
 // Opens a store, and serves line 0 over it.
 fn serve_store<H: Host>(alloc: Global, store: &str, endpoint: &str, host: &mut H) -> Status
-    requires store { WhereTold (H.history host.old) (λ h. is_attached h.calls ≡ false) }
+    requires store { WhereTold (H.history host.old) (λ h. OnlyAttached store.now h.calls) }
     requires line { WhereTold (H.history host.old) (IsOpen 0) }
     ensures carries { Since (H.history host.old) (H.history host.new) (λ was calls. Carries endpoint.now store.now result was calls) }
     ensures ends { IsPipeStatus result }
@@ -48,12 +48,13 @@ fn serve_store<H: Host>(alloc: Global, store: &str, endpoint: &str, host: &mut H
 /// host tells or not, words that are not understood are answered as such with no call made, and a fault only where its
 /// count rose.
 pub fn run<H: Host>(alloc: Global, words: &[String], host: &mut H) -> Status
-    // A line that was shut can't be served, and a host has one store.
-    requires line { WhereTold (H.history host.old) (IsOpen 0) }
-    requires store { WhereTold (H.history host.old) (λ h. is_attached h.calls ≡ false) }
+    // A line that was shut can't be served, and a host has one store: that of the words, if it was named before.
+    requires line { IsSome (spec.pipe_of (spec.texts words.now)) → WhereTold (H.history host.old) (IsOpen 0) }
+    requires store { (store : List ℕ) → spec.named_store (spec.texts words.now) ≡ Some store
+        → WhereTold (H.history host.old) (λ h. OnlyAttached store h.calls) }
 
     // What was sent by each moment and what a stop leaves then, how the run ended, and that its calls determine how.
-    ensures answers { Answers (spec.init_of (spec.texts words.now)) (spec.pipe_of (spec.texts words.now)) (H.history host.old) (H.history host.new) result }
+    ensures answers { RunPromise (spec.init_of (spec.texts words.now)) (spec.pipe_of (spec.texts words.now)) (H.history host.old) (H.history host.new) result }
 
     // Words that are not understood end the run before its first call.
     ensures words { spec.init_of (spec.texts words.now) ≡ None → spec.pipe_of (spec.texts words.now) ≡ None → host.new ≡ host.old }

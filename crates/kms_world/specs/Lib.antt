@@ -1,7 +1,10 @@
 pub mod Action
+pub mod Checked
 pub mod ContainerKind
+pub mod Effect
 pub mod Field
 pub mod Id
+pub mod LookUp
 pub mod Media
 pub mod Name
 pub mod NameFields

@@ -1,5 +1,5 @@
 // Access lists.
-ghost use Rattle.std.specs.Prelude.{◌≡◌, ◌++◌, [], ◌∷◌, OnOk, OnErr, Contains};
+ghost use Rattle.std.specs.Prelude.{◌≡◌, ◌++◌, [], ◌∷◌, OnOk, OnErr, IfOk, Contains};
 ghost use Rattle.kms_world.specs.Names.{IsWithoutRepeats};
 
 use crate::{Id, Name, NoMemory};
@@ -43,6 +43,15 @@ impl Names {
         Ok(())
     }
 
+    /// A copy of the names.
+    pub fn copied(&self) -> Result<Names, NoMemory>
+        ensures { IfOk result (λ copy. copy ≡ self.now) }
+    {
+        Ok(Names {
+            items: self.items.clone()?,
+        })
+    }
+
     /// The names in their order.
     pub fn as_slice(&self) -> &[Name]
         ensures names { result.now ≡ self.now }
@@ -62,4 +71,19 @@ pub struct AclRow {
     pub users: Names,
     pub created: u64,
     pub updated: u64,
+}
+
+impl AclRow {
+    /// A copy of the access list.
+    pub fn copied(&self) -> Result<AclRow, NoMemory>
+        ensures { IfOk result (λ copy. copy ≡ self.now) }
+    {
+        Ok(AclRow {
+            target: self.target,
+            project_access: self.project_access,
+            users: self.users.copied()?,
+            created: self.created,
+            updated: self.updated,
+        })
+    }
 }

@@ -1,50 +1,41 @@
 // Bodies of requests, field by field, as they were read and before their rules are checked. A field is None where it
-// is absent.
-ghost use Rattle.std.specs.Prelude.{◌≡◌, ◌++◌, [], ◌∷◌, OnOk, OnErr};
+// is absent, or null.
+use crate::{ListOf, Text};
 
-use crate::{NoMemory, Text};
-use std::alloc::Global;
-use std::marker::Model;
+/// Texts, in the order of the body.
+pub type Texts = ListOf<Text>;
 
-/// A list of texts. Contracts see the list.
+/// Keys and values as a body has them: the keys aren't checked, and stand in the order of the body.
+pub type TextPairs = ListOf<(Text, Text)>;
+
+/// Members of a container as a body has them.
+pub type MemberBodies = ListOf<MemberBody>;
+
+/// The body of a new secret.
 #[derive(Drop, Debug)]
-pub struct Texts {
-    items: Vec<Text>,
+pub struct SecretBody {
+    pub name: Option<Text>,
+    pub algorithm: Option<Text>,
+    pub bit_length: Option<i128>,
+    pub mode: Option<Text>,
+    pub secret_type: Option<Text>,
+    pub expiration: Option<Text>,
+    pub payload: Option<Text>,
+    pub payload_content_type: Option<Text>,
+    pub payload_content_encoding: Option<Text>,
 }
 
-impl Model for Texts {
-    ghost use Rattle.std.specs.Prelude.{List, ℕ};
-
-    ghost Value = { List (List ℕ) };
-
-    ghost view = { λ t. t.items.items };
+/// The body that replaces a secret's metadata.
+#[derive(Drop, Debug)]
+pub struct MetadataBody {
+    pub metadata: Option<TextPairs>,
 }
 
-impl Texts {
-    /// No texts; takes no memory.
-    pub fn new(alloc: Global) -> Texts
-        ensures { result ≡ [] }
-    {
-        Texts {
-            items: Vec::new(alloc),
-        }
-    }
-
-    /// Puts a text behind the others. After `NoMemory` they are as before.
-    pub fn push(&mut self, text: Text) -> Result<(), NoMemory>
-        ensures ok { OnOk result (self.new ≡ self.old ++ text ∷ []) }
-        ensures err { OnErr result (self.new ≡ self.old) }
-    {
-        self.items.push(text)?;
-        Ok(())
-    }
-
-    /// The texts in their order.
-    pub fn as_slice(&self) -> &[Text]
-        ensures { result.now ≡ self.now }
-    {
-        &self.items
-    }
+/// The body of one pair of a secret's metadata.
+#[derive(Drop, Debug)]
+pub struct PairBody {
+    pub key: Option<Text>,
+    pub value: Option<Text>,
 }
 
 /// What an access list is to say of reading: the users, and whether the row's project may.
@@ -58,6 +49,49 @@ pub struct ReadBody {
 #[derive(Drop, Debug)]
 pub struct AclBody {
     pub read: Option<ReadBody>,
+}
+
+/// A secret that a container is to name, by its link and maybe under a name.
+#[derive(Drop, Debug)]
+pub struct MemberBody {
+    pub name: Option<Text>,
+    pub secret_ref: Option<Text>,
+}
+
+/// The body of a new container.
+#[derive(Drop, Debug)]
+pub struct ContainerBody {
+    pub name: Option<Text>,
+    /// the field `type`
+    pub kind: Option<Text>,
+    pub secret_refs: Option<MemberBodies>,
+}
+
+/// The body of a consumer that registers, or goes.
+#[derive(Drop, Debug)]
+pub struct ConsumerBody {
+    pub name: Option<Text>,
+    /// the field `URL`
+    pub url: Option<Text>,
+}
+
+/// What key is ordered.
+#[derive(Drop, Debug)]
+pub struct MetaBody {
+    pub algorithm: Option<Text>,
+    pub bit_length: Option<i128>,
+    pub mode: Option<Text>,
+    pub name: Option<Text>,
+    pub payload_content_type: Option<Text>,
+    pub expiration: Option<Text>,
+}
+
+/// The body of a new order.
+#[derive(Drop, Debug)]
+pub struct OrderBody {
+    /// the field `type`
+    pub kind: Option<Text>,
+    pub meta: Option<MetaBody>,
 }
 
 /// The limits that a project's quotas are to have, as the numbers that were read.

@@ -1,10 +1,10 @@
 // Containers and their consumers.
-ghost use Rattle.std.specs.Prelude.{◌≡◌, ◌++◌, [], ◌∷◌, OnOk, OnErr};
+ghost use Rattle.std.specs.Prelude.{◌≡◌, IfOk};
 ghost use Rattle.kms_world.specs.ContainerKind.{word_of};
 
-use crate::{Id, Name, NoMemory, Text};
+use crate::text::copied;
+use crate::{Id, ListOf, Name, NoMemory, Text};
 use std::alloc::Global;
-use std::marker::Model;
 
 /// What a container holds.
 #[derive(Clone, Copy, Debug, PartialEq, Eq)]
@@ -27,47 +27,8 @@ impl ContainerKind {
     }
 }
 
-/// The secrets that a container names, each by its id and maybe under a name. Contracts see the list.
-#[derive(Drop, Debug)]
-pub struct Members {
-    items: Vec<(Option<Text>, Id)>,
-}
-
-impl Model for Members {
-    ghost use Rattle.std.specs.Prelude.{List, ℕ, Option};
-    ghost use Rattle.kms_world.specs.declared.id.Id.{Id};
-
-    ghost Value = { List (Option (List ℕ) × Id) };
-
-    ghost view = { λ m. m.items.items };
-}
-
-impl Members {
-    /// No members; takes no memory.
-    pub fn new(alloc: Global) -> Members
-        ensures { result ≡ [] }
-    {
-        Members {
-            items: Vec::new(alloc),
-        }
-    }
-
-    /// Puts a member behind the others. After `NoMemory` they are as before.
-    pub fn push(&mut self, member: (Option<Text>, Id)) -> Result<(), NoMemory>
-        ensures ok { OnOk result (self.new ≡ self.old ++ member ∷ []) }
-        ensures err { OnErr result (self.new ≡ self.old) }
-    {
-        self.items.push(member)?;
-        Ok(())
-    }
-
-    /// The members in their order.
-    pub fn as_slice(&self) -> &[(Option<Text>, Id)]
-        ensures { result.now ≡ self.now }
-    {
-        &self.items
-    }
-}
+/// The secrets that a container names, each by its id and maybe under a name.
+pub type Members = ListOf<(Option<Text>, Id)>;
 
 /// A container of secrets. Times are whole seconds since 1970; the name has at most 255 bytes.
 #[derive(Drop, Debug)]
@@ -90,4 +51,47 @@ pub struct ConsumerRow {
     pub name: Text,
     pub url: Text,
     pub created: u64,
+}
+
+impl ConsumerRow {
+    /// A copy of the consumer.
+    pub fn copied(&self) -> Result<ConsumerRow, NoMemory>
+        ensures { IfOk result (λ copy. copy ≡ self.now) }
+    {
+        Ok(ConsumerRow {
+            container: self.container,
+            name: self.name.clone()?,
+            url: self.url.clone()?,
+            created: self.created,
+        })
+    }
+}
+
+fn members_copied(alloc: Global, members: &Members) -> Result<Members, NoMemory>
+    ensures { IfOk result (λ copy. copy ≡ members.now) }
+{
+    let mut copy = Members::new(alloc);
+    for member in members.as_slice() {
+        let name = copied(&member.0)?;
+        copy.push((name, member.1))?;
+    }
+    Ok(copy)
+}
+
+impl ContainerRow {
+    /// A copy of the container.
+    pub fn copied(&self, alloc: Global) -> Result<ContainerRow, NoMemory>
+        ensures { IfOk result (λ copy. copy ≡ self.now) }
+    {
+        Ok(ContainerRow {
+            id: self.id,
+            project: self.project,
+            creator: self.creator,
+            created: self.created,
+            updated: self.updated,
+            name: copied(&self.name)?,
+            kind: self.kind,
+            secrets: members_copied(alloc, &self.secrets)?,
+        })
+    }
 }

@@ -28,7 +28,8 @@ impl Model for Name {
     ghost inverse_ok = { fields_back };
 }
 
-const fn is_name_byte(b: u8) -> bool
+/// Whether a byte may stand in a name: `A-Z a-z 0-9 - _ .`.
+pub const fn is_name_byte(b: u8) -> bool
     ensures { result ≡ is_name_byte b }
 {
     (b'A' <= b && b <= b'Z')
@@ -45,7 +46,8 @@ fn all_name_bytes(text: &[u8]) -> bool
     text.iter().all(|b| is_name_byte(*b))
 }
 
-fn is_name(text: &[u8]) -> bool
+/// Whether a text is a name: 1 to 64 bytes, each of which may stand in one.
+pub fn is_name(text: &[u8]) -> bool
     ensures { result ≡ is_name text.now }
 {
     1 <= text.len() && text.len() <= 64 && all_name_bytes(text)

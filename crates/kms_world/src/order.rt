@@ -1,5 +1,8 @@
 // Orders of keys.
-use crate::{Id, Name, Text};
+ghost use Rattle.std.specs.Prelude.{◌≡◌, IfOk};
+
+use crate::text::copied;
+use crate::{Id, Name, NoMemory, Text};
 
 /// Why an order failed.
 #[derive(Clone, Copy, Debug, PartialEq, Eq)]
@@ -38,4 +41,25 @@ pub struct OrderRow {
     /// from this time on the secret isn't there any more
     pub expiration: Option<u64>,
     pub state: OrderState,
+}
+
+impl OrderRow {
+    /// A copy of the order.
+    pub fn copied(&self) -> Result<OrderRow, NoMemory>
+        ensures { IfOk result (λ copy. copy ≡ self.now) }
+    {
+        Ok(OrderRow {
+            id: self.id,
+            project: self.project,
+            creator: self.creator,
+            created: self.created,
+            updated: self.updated,
+            algorithm: self.algorithm.clone()?,
+            bit_length: self.bit_length,
+            mode: copied(&self.mode)?,
+            name: copied(&self.name)?,
+            expiration: self.expiration,
+            state: self.state,
+        })
+    }
 }

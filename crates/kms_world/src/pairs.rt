@@ -1,5 +1,5 @@
 // Metadata of a secret.
-ghost use Rattle.std.specs.Prelude.{◌≡◌, ◌++◌, [], ◌∷◌, OnOk, OnErr, All, IsTrue};
+ghost use Rattle.std.specs.Prelude.{◌≡◌, ◌++◌, [], ◌∷◌, OnOk, OnErr, IfOk, All, IsTrue};
 ghost use Rattle.kms_world.specs.Pairs.{is_below, Ascends};
 
 use crate::{NoMemory, Text};
@@ -41,6 +41,15 @@ impl Pairs {
     {
         self.items.push(pair)?;
         Ok(())
+    }
+
+    /// A copy of the pairs.
+    pub fn copied(&self) -> Result<Pairs, NoMemory>
+        ensures { IfOk result (λ copy. copy ≡ self.now) }
+    {
+        Ok(Pairs {
+            items: self.items.clone()?,
+        })
     }
 
     /// The pairs in ascending order of their keys.

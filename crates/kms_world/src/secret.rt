@@ -3,6 +3,7 @@ ghost use Rattle.std.specs.Prelude.{◌≡◌, IfOk, option_map};
 ghost use Rattle.kms_world.specs.SecretKind.{word_of, kind_of};
 ghost use Rattle.kms_world.specs.Secret.{without_bytes};
 
+use crate::text::copied;
 use crate::{Bytes, Id, Name, NoMemory, Pairs, Payload, Text};
 use std::alloc::Global;
 
@@ -74,15 +75,6 @@ pub struct SecretRow {
     pub metadata: Pairs,
 }
 
-fn text_copied(text: &Option<Text>) -> Result<Option<Text>, NoMemory>
-    ensures { IfOk result (λ copy. copy ≡ text.now) }
-{
-    match text {
-        None => Ok(None),
-        Some(text) => Ok(Some(text.clone()?)),
-    }
-}
-
 fn media_copied(alloc: Global, payload: &Option<Payload>) -> Option<Payload>
     ensures { result ≡ option_map without_bytes payload.now }
 {
@@ -108,10 +100,10 @@ impl SecretRow {
             creator: self.creator,
             created: self.created,
             updated: self.updated,
-            name: text_copied(&self.name)?,
-            algorithm: text_copied(&self.algorithm)?,
+            name: copied(&self.name)?,
+            algorithm: copied(&self.algorithm)?,
             bit_length: self.bit_length,
-            mode: text_copied(&self.mode)?,
+            mode: copied(&self.mode)?,
             kind: self.kind,
             expiration: self.expiration,
             payload: media_copied(alloc, &self.payload),

@@ -48,3 +48,13 @@ impl Clone for Text {
         })
     }
 }
+
+/// A copy of a text, where there is one.
+pub fn copied(text: &Option<Text>) -> Result<Option<Text>, NoMemory>
+    ensures { IfOk result (λ copy. copy ≡ text.now) }
+{
+    match text {
+        None => Ok(None),
+        Some(text) => Ok(Some(text.clone()?)),
+    }
+}

@@ -1,12 +1,12 @@
 // The calls of a host in memory.
-ghost use Rattle.std.specs.Prelude.{◌≡◌, ◌≢◌, ◌≤◌, ◌<◌, ◌+◌, ◌^◌, ◌⊎◌, ◌||◌, ℕ, List, length, drop, Option, Some, Err, IfOk, IfSome, OnOk, OnErr, IsTrue, is_err, is_ok, is_none, false};
+ghost use Rattle.std.specs.Prelude.{◌≡◌, ◌≢◌, ◌≤◌, ◌<◌, ◌+◌, ◌^◌, ◌⊎◌, ◌||◌, ℕ, List, length, drop, Option, Some, Err, IfOk, IfSome, OnOk, OnErr, IsTrue, is_err, is_ok, is_none};
 ghost use Rattle.kms_host.specs.History.{Tells, WhereTold, Stops, HasFirst, then_call, answer, given, given_by_name, filled};
 ghost use Rattle.kms_host.specs.Faults.{HasCause, HasNameCause, NeverFalls};
-ghost use Rattle.kms_host.specs.Line.{IsOpen};
-ghost use Rattle.kms_host.specs.Store.{IsAttached, is_attached};
+ghost use Rattle.kms_host.specs.Line.{IsOpen, opened};
+ghost use Rattle.kms_host.specs.Store.{IsAttached, OnlyAttached};
 ghost use Rattle.kms_host.specs.KeyFiles.{named};
 ghost use Rattle.kms_host.specs.Disk.{disk, reads, after_write, after_cut, Left};
-ghost use Rattle.kms_host.specs.Memory.{faults_of, fails_next, present_on, moment_at, draws_for, AreDrawn, after_take, after_give, after_counted, after_file, after_draw, after_call, AddsTo, next};
+ghost use Rattle.kms_host.specs.Memory.{faults_of, fails_next, present_on, moment_at, draws_for, AreDrawn, next_line, after_take, after_give, after_counted, after_came, after_file, after_draw, after_call, AddsTo, next};
 ghost use Rattle.kms_host.specs.declared.call.Call.TheVariants as calls;
 ghost use Rattle.kms_host.specs.declared.call.FileCall.TheVariants as on;
 ghost use Rattle.kms_host.specs.declared.call.Count.TheVariants as counts;
@@ -15,7 +15,7 @@ ghost use Rattle.kms_host.specs.declared.call.NameFault.TheVariants as faults;
 use crate::memory::counter::count_fault;
 use crate::memory::file::fill_from;
 use crate::memory::key_files::text_of;
-use crate::memory::log::{attached, drew, gave, named, took, unnamed};
+use crate::memory::log::{attached, drew, gave, listened, named, took, unnamed};
 use crate::memory::output::send;
 use crate::memory::source::pull;
 use crate::memory::store::{cut, measure, read, sync, write};
@@ -58,7 +58,7 @@ impl Host for MemoryHost {
     }
 
     fn attach(&mut self, name: &str) -> Result<(), NameFault>
-        requires { WhereTold self.old.history (λ h. is_attached h.calls ≡ false) }
+        requires { WhereTold self.old.history (λ h. OnlyAttached name.now h.calls) }
         ensures told { Tells self.old.history self.new.history (λ was now.
             now ≡ then_call was (calls.Attached name.now result)) }
         ensures cause { HasNameCause counts.Store (faults_of self.old.counters) (faults_of self.new.counters) result }
@@ -74,6 +74,44 @@ impl Host for MemoryHost {
         };
         self.log.note(attached(self.alloc, name, result), false);
         result
+    }
+
+    fn listen(&mut self, address: &str) -> Result<(), NameFault>
+        ensures told { Tells self.old.history self.new.history (λ was now.
+            now ≡ then_call was (calls.Listened address.now result)) }
+        ensures cause { HasNameCause counts.Listen (faults_of self.old.counters) (faults_of self.new.counters) result }
+        ensures stops { Stops self.old.wanted self.new.wanted self.old.history self.new.history }
+        ensures listed { is_err result ≡ fails_next self.old.counters.listen }
+        ensures memory { result ≢ Err faults.NoMemory }
+        ensures after { self.new ≡ after_counted counts.Listen result self.old self.new }
+    {
+        let result = if self.listen.refuses() {
+            Err(NameFault::Failed)
+        } else {
+            Ok(())
+        };
+        self.log.note(listened(self.alloc, address, result), false);
+        result
+    }
+
+    fn next_line(&mut self) -> Result<Option<u32>, Failed>
+        ensures told { Tells self.old.history self.new.history (λ was now.
+            (now ≡ then_call was (calls.Came (answer result)))
+            × IfOk result (λ next. IfSome next (λ line. line ≡ opened was.calls + 1))) }
+        ensures cause { HasCause counts.Listen (faults_of self.old.counters) (faults_of self.new.counters) result }
+        ensures stops { Stops self.old.wanted self.new.wanted self.old.history self.new.history }
+        ensures listed { is_err result ≡ fails_next self.old.counters.listen }
+        ensures gives { IfOk result (λ next. next ≡ next_line self.old.opened (length self.old.lines)) }
+        ensures after { self.new ≡ after_came result self.old self.new }
+    {
+        if self.listen.refuses() {
+            self.log.note(Ok(Call::Came(None)), false);
+            return Err(Failed);
+        }
+        let next = line_after(self.opened, self.inputs.len());
+        self.opened = next.unwrap_or(self.opened);
+        self.log.note(Ok(Call::Came(Some(next))), false);
+        Ok(next)
     }
 
     fn take(&mut self, line: u32, room: &mut [u8]) -> Result<usize, Failed>
@@ -305,6 +343,16 @@ impl Host for MemoryHost {
         self.random.fill(purpose, room);
         self.log.note(drew(self.alloc, purpose, room), false);
         Ok(())
+    }
+}
+
+// The line that comes next where so many were opened besides line 0, of so many that were added.
+fn line_after(opened: u32, lines: usize) -> Option<u32>
+    ensures { result ≡ next_line opened lines }
+{
+    match opened.checked_add(1) {
+        Some(line) if (line as usize) < lines => Some(line),
+        _ => None,
     }
 }
 

@@ -31,6 +31,7 @@ pub struct MemoryHost {
     pub(crate) file_0: File,
     pub(crate) file_1: File,
     pub(crate) inputs: Vec<Input>,
+    pub(crate) opened: u32,
     pub(crate) outputs: Vec<(u32, Bytes)>,
     pub(crate) moments: Vec<u64>,
     pub(crate) told: usize,
@@ -77,6 +78,7 @@ impl MemoryHost {
             file_0,
             file_1,
             inputs: Vec::new(alloc),
+            opened: 0,
             outputs: Vec::new(alloc),
             moments: Vec::new(alloc),
             told: 0,
@@ -95,7 +97,8 @@ impl MemoryHost {
         Ok(())
     }
 
-    /// Adds a line with these bytes, which come in pieces of this length, at least 1. The first is line 0.
+    /// Adds a line with these bytes, which come in pieces of this length, at least 1. The first is line 0, which is there
+    /// from the start; `next_line` gives the others in their order.
     pub fn line(&mut self, bytes: &[u8], piece: usize) -> Result<(), NoMemory>
         requires { 0 < piece }
         ensures ok { OnOk result (self.new ≡ record self.old { lines = self.old.lines ++ record { bytes = bytes.now; piece = piece; at = 0 } ∷ [] }) }

@@ -128,6 +128,13 @@ pub fn attached(alloc: Global, name: &str, done: Result<(), NameFault>) -> Resul
     Ok(Call::Attached(Bytes::of(alloc, name.as_bytes())?, done))
 }
 
+/// An address for further lines, and how that came out.
+pub fn listened(alloc: Global, address: &str, done: Result<(), NameFault>) -> Result<Call, NoMemory>
+    ensures { IfOk result (λ c. c ≡ calls.Listened address.now done) }
+{
+    Ok(Call::Listened(Bytes::of(alloc, address.as_bytes())?, done))
+}
+
 /// The bytes that were drawn.
 pub fn drew(alloc: Global, purpose: Purpose, bytes: &[u8]) -> Result<Call, NoMemory>
     ensures { IfOk result (λ c. c ≡ calls.Drew purpose (Some bytes.now)) }

@@ -1,7 +1,9 @@
 // The files of a store, and key files, on the system's disk.
 ghost use Rattle.std.specs.Prelude.{◌≤◌, ◌<◌, ◌+◌, ◌^◌, length, IfOk, OnOk};
 
+use crate::pipe::limit::FileLimit;
 use crate::{Failed, NameFault};
+use std::fs;
 use std::fs::{File, OpenFile, OpenOptions};
 use std::io::ErrorKind;
 use std::os::unix::fs::FileExt;
@@ -16,10 +18,12 @@ const LENGTH_LIMIT: u64 = 1 << 62;
 pub struct StoreFiles {
     first: File,
     second: File,
+    limit: FileLimit,
 }
 
 impl StoreFiles {
-    /// Opens `NAME.0` and `NAME.1`, and makes those that aren't there, empty, so that a stop doesn't lose them again.
+    /// Opens `NAME.0` and `NAME.1`, and makes those that aren't there, empty, so that a stop doesn't lose them again. What
+    /// has one of these names, or the name itself, has to be a file that can be opened: else nothing is made.
     pub fn open(rt: HostRuntime, name: &str) -> Result<StoreFiles, NameFault> {
         let Ok(first) = format!(in rt.alloc(); "{name}.0") else {
             return Err(NameFault::NoMemory);
@@ -27,14 +31,31 @@ impl StoreFiles {
         let Ok(second) = format!(in rt.alloc(); "{name}.1") else {
             return Err(NameFault::NoMemory);
         };
+        match StoreFiles::open_paths(rt, name, first.as_str(), second.as_str()) {
+            Ok(files) => Ok(files),
+            Err(Failed) => Err(NameFault::Failed),
+        }
+    }
+
+    fn open_paths(
+        rt: HostRuntime,
+        name: &str,
+        first: &str,
+        second: &str,
+    ) -> Result<StoreFiles, Failed> {
+        let _ = opened(rt, name, File::options().read(true))?;
+        let mut both = OpenOptions::new();
+        both.read(true).write(true);
+        let found = (opened(rt, first, &both)?, opened(rt, second, &both)?);
         let files = StoreFiles {
-            first: open_or_make(rt, first.as_str())?,
-            second: open_or_make(rt, second.as_str())?,
+            first: or_made(rt, found.0, first)?,
+            second: or_made(rt, found.1, second)?,
+            limit: FileLimit::of_process(rt),
         };
         if files.first.try_lock().is_err() {
-            return Err(NameFault::Failed);
+            return Err(Failed);
         }
-        sync_folder(rt, first.as_str())?;
+        sync_folder(rt, first)?;
         Ok(files)
     }
 
@@ -59,12 +80,12 @@ impl StoreFiles {
         read_from(self.file(file), at, room)
     }
 
-    /// Writes the whole piece at a place of a file.
+    /// Writes the whole piece at a place of a file. It fails where the file may not become as long.
     pub fn write(&self, file: u8, at: u64, piece: &[u8]) -> Result<(), Failed>
         ensures { OnOk result (at + length piece.now < 2 ^ 62) }
     {
         match at.checked_add(piece.len() as u64) {
-            Some(end) if end < LENGTH_LIMIT => {}
+            Some(end) if end < LENGTH_LIMIT && self.limit.admits(end) => {}
             _ => return Err(Failed),
         }
         match self.file(file).write_all_at(piece, at) {
@@ -90,13 +111,13 @@ impl StoreFiles {
     }
 }
 
-/// The first bytes of a file, as many as fit the room.
+/// The first bytes of a file, as many as fit the room. What isn't a file is not opened: a pipe might wait for its writer.
 pub fn read_front(rt: HostRuntime, name: &str, room: &mut [u8]) -> Result<usize, Failed>
     ensures { IfOk result (λ n. n ≤ length room.new) }
 {
-    match File::open(&rt, name) {
-        Ok(file) => read_from(&file, 0, room),
-        Err(_) => Err(Failed),
+    match opened(rt, name, File::options().read(true))? {
+        Some(file) => read_from(&file, 0, room),
+        None => Err(Failed),
     }
 }
 
@@ -119,23 +140,43 @@ fn read_from(file: &File, at: u64, room: &mut [u8]) -> Result<usize, Failed>
     Err(Failed)
 }
 
-fn open_or_make(rt: HostRuntime, path: &str) -> Result<File, NameFault> {
-    let mut options = OpenOptions::new();
-    options.read(true).write(true).create(true);
-    match options.open(&rt, path) {
+// Opens a file. None where nothing has its name. A folder, a pipe or a device isn't opened.
+fn opened(rt: HostRuntime, path: &str, how: &OpenOptions) -> Result<Option<File>, Failed> {
+    match fs::metadata(&rt, path) {
+        Ok(found) if found.is_file() => {}
+        Err(error) if error.kind() == ErrorKind::NotFound => return Ok(None),
+        _ => return Err(Failed),
+    }
+    match how.open(&rt, path) {
+        Ok(file) => Ok(Some(file)),
+        Err(_) => Err(Failed),
+    }
+}
+
+// The file that was found, or one that is made, empty.
+fn or_made(rt: HostRuntime, found: Option<File>, path: &str) -> Result<File, Failed> {
+    if let Some(file) = found {
+        return Ok(file);
+    }
+    match File::options()
+        .read(true)
+        .write(true)
+        .create(true)
+        .open(&rt, path)
+    {
         Ok(file) => Ok(file),
-        Err(_) => Err(NameFault::Failed),
+        Err(_) => Err(Failed),
     }
 }
 
 // Brings the names in a file's folder to the disk.
-fn sync_folder(rt: HostRuntime, path: &str) -> Result<(), NameFault> {
+fn sync_folder(rt: HostRuntime, path: &str) -> Result<(), Failed> {
     let folder = match Path::new(path).parent() {
         Some(folder) if !folder.as_str().is_empty() => folder.as_str(),
         _ => ".",
     };
     match File::open(&rt, folder) {
         Ok(folder) if folder.sync_all().is_ok() => Ok(()),
-        _ => Err(NameFault::Failed),
+        _ => Err(Failed),
     }
 }

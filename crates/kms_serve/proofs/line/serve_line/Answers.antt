@@ -1,5 +1,5 @@
-use Rattle.std.proofs.Common.{refl}
-use Rattle.kms_host.proofs.FaultLaws.{never_falls_same, stops_same}
+use Rattle.std.proofs.Common.{refl, ap, arith, length}
+use Rattle.kms_host.proofs.FaultLaws.{never_falls_same, never_falls_then, stops_same, stops_then}
 use Rattle.kms_host.proofs.Moments.{since_weaker}
 use Rattle.kms_serve.specs.RunStart.{run_start, FromStore}
 use Rattle.kms_serve.specs.Owing.{EndedAt}
@@ -7,7 +7,7 @@ use Rattle.kms_serve.specs.Turns.{serving_of}
 use Rattle.kms_serve.specs.declared.serving.Serving.{Serving}
 use Rattle.kms_serve.specs.declared.status.Status.TheVariants as status
 use Rattle.kms_serve.proofs.OwingLaws.{ended_out_of_memory}
-use Rattle.kms_serve.proofs.TurnLaws.{bounded_first}
+use Rattle.kms_serve.proofs.TurnLaws.{bounded_first, buffer_length}
 use Rattle.kms_serve.proofs.line.serve_line.Goals as goal
 
 pub loop-status-init : goal.loop-status-init
@@ -16,6 +16,7 @@ loop-status-init g c =
     record {
       good = λ store start good. rw c.new.ensures good;
       idle = c.requires.idle;
+      working = c.requires.working;
       ready = c.requires.ready;
       bounded = bounded_first s c.new.ensures refl;
       room = c.in-Ok.ensures;
@@ -27,3 +28,17 @@ pub returns-in_default-clause-ended : goal.returns-in_default-clause-ended
 returns-in_default-clause-ended g c store start good =
     since_weaker (λ was calls. FromStore store was (λ b. EndedAt c.args.endpoint.now b status.NoMemory calls)) good
     (λ was calls h first steps stands. ended_out_of_memory c.args.endpoint.now (run_start store was first steps) (serving_of c.args.engine) calls (h first steps stands))
+
+pub loop-status-preserved : goal.loop-status-preserved
+loop-status-preserved g c = record {
+  good = λ store start good. c.in-Went.ensures.good store start (c.loop-status.invariant.good store start good);
+  idle = c.in-Went.ensures.idle refl;
+  working = c.in-Went.ensures.working refl;
+  ready = c.in-Went.ensures.ready refl;
+  bounded = c.in-Went.ensures.goes.bounded;
+  room =
+      buffer_length c.loop-status.room.len c.take_turn.new.room c.loop-status.room.items (omega (arith, c.loop-status.room.ok))
+      (omega (arith, c.take_turn.auto.room, ap length c.deref_mut.ensures.value)) c.loop-status.invariant.room;
+  stops = stops_then c.loop-status.invariant.stops c.in-Went.ensures.stops;
+  later = never_falls_then c.loop-status.invariant.later c.in-Went.ensures.causes.later;
+}

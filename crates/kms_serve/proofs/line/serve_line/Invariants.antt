@@ -1,7 +1,7 @@
 use Rattle.std.proofs.Common.{◌≡◌, ℕ, ◌+◌, ◌-◌, List, Option, length}
 use Rattle.kms_host.specs.History.{History, WhereTold, Stops}
 use Rattle.kms_host.specs.Faults.{NeverFalls}
-use Rattle.kms_core.specs.Steps.{IsIdle}
+use Rattle.kms_core.specs.Steps.{IsIdle, IsWorking}
 use Rattle.kms_serve.specs.Turns.{Good, IsBounded, CanServe, serving_of, fed}
 use Rattle.kms_serve.proofs.line.serve_line.Given as goal
 
@@ -10,6 +10,7 @@ invariant-loop-status g l = record {
   good : (store : List ℕ) (start : Option History) → Good l.endpoint store start (g.H.Host.history l.initial.host) (serving_of l.fn.engine)
       → Good l.endpoint store start (g.H.Host.history l.host) l.s;
   idle : IsIdle l.s.engine;
+  working : IsWorking l.s.engine;
   ready : WhereTold (g.H.Host.history l.host) (CanServe l.s.engine);
   bounded : IsBounded l.s;
   room : length l.room.items ≡ 65536;

@@ -1,4 +1,5 @@
-use Rattle.std.proofs.Common.{true, false, refl, sym}
+use Rattle.std.proofs.Common.{true, false, refl, sym, ap, ◌∙◌}
+use Rattle.kms_journal.specs.Position.{Position}
 use Rattle.std.proofs.lemmas.Bool.{false≢true}
 use Rattle.kms_host.specs.Line.{IsOpen}
 use Rattle.kms_host.proofs.Moments.{known_after_told}
@@ -6,12 +7,15 @@ use Rattle.kms_serve.specs.Events.{event}
 use Rattle.kms_serve.specs.Owed.{steps_at}
 use Rattle.kms_serve.specs.Turns.{CanServe}
 use Rattle.kms_serve.proofs.PrepareLaws.{placed, settling, prepared, open_settling, ready_settling}
-use Rattle.kms_serve.proofs.ToldLaws.{uncalled}
+use Rattle.kms_host.proofs.ToldLaws.{uncalled}
 use Rattle.kms_serve.proofs.prepare.prepare.Goals as goal
 
-pub settle-requires : goal.settle-requires
-settle-requires g c =
-    record { placed = rw c.reply-owed.ensures.host (placed c.args.engine.now c.reply-owed.new.engine c.now-told.result c.requires.ready c.now-told.ensures.told c.reply-owed.ensures.waits) }
+pub settle-requires-clause-working : goal.settle-requires-clause-working
+settle-requires-clause-working g c = ap (λ (p : Position). p.failed) c.reply-owed.ensures.waits.1.journal ∙ c.requires.working
+
+pub settle-requires-clause-placed : goal.settle-requires-clause-placed
+settle-requires-clause-placed g c =
+    rw c.reply-owed.ensures.host (placed c.args.engine.now c.reply-owed.new.engine c.now-told.result c.requires.ready c.now-told.ensures.told c.reply-owed.ensures.waits)
 
 pub returns-in-Ok-clause-prepared : goal.returns-in-Ok-clause-prepared
 returns-in-Ok-clause-prepared g c = λ served n is last.

@@ -24,4 +24,4 @@ pub returns-clause-told : goal.returns-clause-told
 returns-clause-told g c =
     tells_then _ c.in_ok-journal.ensures.told c.in-Ok.ensures.told
     (λ was mid now o k. started_at c.in_ok-journal.journal was mid now o c.in-Ok.chain k c.in_ok-rows.rows c.of.result c.in_ok-rows.ensures
-    (c.of.ensures ∙ ap (λ (j : Position). let e : Held = record { state = c.in_ok-rows.rows.state; room = false; store = record { journal = j; waiting = None } } in e) c.in-Ok.ensures.stays))
+    (c.of.ensures ∙ ap (λ (j : Position). let e : Held = record { state = c.in_ok-rows.rows.state; room = false; store = record { journal = j; waiting = None } } in e) c.in-Ok.ensures.position))

@@ -1,4 +1,4 @@
-use Rattle.std.proofs.Common.{◌≡◌, ◌<◌, ◌+◌, ℕ, length, ap, sym, subst}
+use Rattle.std.proofs.Common.{◌≡◌, ◌∙◌, ◌<◌, ◌+◌, ℕ, length, ap, sym, subst, Bool, false}
 use Rattle.std.proofs.lemmas.Result.{err_from_is_err_and}
 use Rattle.kms_host.proofs.FaultLaws.{stops_then}
 use Rattle.kms_host.proofs.Moments.{tells_then, tells_weaker, known_with_told}
@@ -16,7 +16,7 @@ returns-in_err-write_through-clause-told g c =
     let r = err_from_is_err_and c.from_residual.result c.from_residual.ensures.1 in
     rw (r.1)
     (tells_weaker _ c.in_err-write_through.ensures.told
-    (λ was now w s placed. first_fails p p c.args.framed.now was s lt placed c.requires.framed _ r.0 now (same_write _ _ _ _ f (ap (λ (n : ℕ). n + 1) e) c.args.framed.now _ was now w)))
+    (λ was now w s placed. first_fails p _ c.args.framed.now was s lt placed c.requires.framed _ r.0 now (same_write _ _ _ _ f (ap (λ (n : ℕ). n + 1) e) c.args.framed.now _ was now w)))
 
 pub write_through-requires-2-clause-place : goal.write_through-requires-2-clause-place
 write_through-requires-2-clause-place g c =
@@ -41,8 +41,8 @@ returns-in_err-write_through-2-clause-told g c =
     rw (r.1)
     (tells_then _ c.in_ok-write_through.ensures.told c.in_err-write_through-2.ensures.told
     (λ was mid now one two s placed.
-    second_fails p p c.args.framed.now was s lt placed c.requires.framed _ r.0 mid now
-    (staged p p c.args.framed.now was s lt placed c.requires.framed _ mid (same_write _ _ _ _ f (ap (λ (n : ℕ). n + 1) e) c.args.framed.now _ was mid one))
+    second_fails p _ c.args.framed.now was s lt placed c.requires.framed _ r.0 mid now
+    (staged p _ c.args.framed.now was s lt placed c.requires.framed _ mid (same_write _ _ _ _ f (ap (λ (n : ℕ). n + 1) e) c.args.framed.now _ was mid one))
     (same_write _ _ _ _ f e _ _ mid now two)))
 
 pub returns-clause-told : goal.returns-clause-told
@@ -51,7 +51,8 @@ returns-clause-told g c =
     let f : c.self.inside.header.file ≡ p.file = ap (λ (q : Position). q.file) c.self.view_is in
     let e : c.self.inside.end ≡ p.end = ap (λ (q : Position). q.end) c.self.view_is in
     let lt : p.file < 2 = subst (λ (n : ℕ). n < 2) f c.self.invariant.0 in
-    let moved = ap (λ (q : Position). let x : Position = record q { end = q.end + length c.args.framed.now } in x) c.self.view_is in
+    let moved = ap (λ (q : Position). let x : Position = record q { end = q.end + length c.args.framed.now; failed = false } in x) c.self.view_is
+    ∙ ap (λ (b : Bool). let x : Position = record p { end = p.end + length c.args.framed.now; failed = b } in x) (sym c.requires.working) in
     tells_then _ c.in_ok-write_through.ensures.told c.in_ok-write_through-2.ensures.told
     (λ was mid now one two s placed.
     second_done p _ c.args.framed.now was s lt placed c.requires.framed _ moved mid now

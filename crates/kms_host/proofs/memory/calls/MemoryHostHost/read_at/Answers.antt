@@ -6,26 +6,26 @@ use Rattle.kms_host.proofs.memory.calls.MemoryHostHost.read_at.Goals as goal
 
 pub invariant_of-self : goal.invariant_of-self
 invariant_of-self c =
-    agrees_on_0 (both c.self.inside.opening) c.self.inside.key_files.items c.self.inside.log c.read.new.log c.self.inside.outputs.items c.self.inside.file_0 c.self.inside.file_1 c.self.inside.file_0 _ _
+    agrees_on_0 (both c.self.inside.opening) c.self.inside.key_files.items c.self.inside.log c.read.new.log c.self.inside.outputs.items c.self.inside.opened c.self.inside.file_0 c.self.inside.file_1 c.self.inside.file_0 _ _
     c.read.ensures.notes c.self.invariant (λ was told here. tt)
 
 pub returns-then-file-eq0-clause-told : goal.returns-then-file-eq0-clause-told
 returns-then-file-eq0-clause-told c =
     let is : c.args.file ≡ 0 = c.if-file-eq0.true in
     rw (← c.self.view_is, is)
-    (tells_on_0 (both c.self.inside.opening) c.self.inside.key_files.items c.self.inside.log c.read.new.log c.self.inside.outputs.items c.self.inside.file_0 c.self.inside.file_1 c.self.inside.file_0 _ _ _
+    (tells_on_0 (both c.self.inside.opening) c.self.inside.key_files.items c.self.inside.log c.read.new.log c.self.inside.outputs.items c.self.inside.opened c.self.inside.file_0 c.self.inside.file_1 c.self.inside.file_0 _ _ _
     c.read.ensures.notes c.self.invariant (λ was told here. tt)
     (came_back 0 c.self.inside.file_0 c.args.at _ _ c.read.result c.read.ensures.first))
 
 pub invariant_of-self-else-file-eq0 : goal.invariant_of-self-else-file-eq0
 invariant_of-self-else-file-eq0 c =
-    agrees_on_1 (both c.self.inside.opening) c.self.inside.key_files.items c.self.inside.log c.read-else-file-eq0.new.log c.self.inside.outputs.items c.self.inside.file_0 c.self.inside.file_1 c.self.inside.file_1 _ _
+    agrees_on_1 (both c.self.inside.opening) c.self.inside.key_files.items c.self.inside.log c.read-else-file-eq0.new.log c.self.inside.outputs.items c.self.inside.opened c.self.inside.file_0 c.self.inside.file_1 c.self.inside.file_1 _ _
     c.read-else-file-eq0.ensures.notes c.self.invariant (λ was told here. tt)
 
 pub returns-else-file-eq0-clause-told : goal.returns-else-file-eq0-clause-told
 returns-else-file-eq0-clause-told c =
     let is : c.args.file ≡ 1 = (omega (arith, c.requires.file, c.if-file-eq0.false)) in
     rw (← c.self.view_is, is)
-    (tells_on_1 (both c.self.inside.opening) c.self.inside.key_files.items c.self.inside.log c.read-else-file-eq0.new.log c.self.inside.outputs.items c.self.inside.file_0 c.self.inside.file_1 c.self.inside.file_1 _ _ _
+    (tells_on_1 (both c.self.inside.opening) c.self.inside.key_files.items c.self.inside.log c.read-else-file-eq0.new.log c.self.inside.outputs.items c.self.inside.opened c.self.inside.file_0 c.self.inside.file_1 c.self.inside.file_1 _ _ _
     c.read-else-file-eq0.ensures.notes c.self.invariant (λ was told here. tt)
     (came_back 1 c.self.inside.file_1 c.args.at _ _ c.read-else-file-eq0.result c.read-else-file-eq0.ensures.first))

@@ -6,12 +6,12 @@ use Rattle.kms_host.proofs.memory.calls.MemoryHostHost.text.Goals as goal
 
 pub invariant_of-self : goal.invariant_of-self
 invariant_of-self c =
-    agrees_apart (both c.self.inside.opening) c.self.inside.key_files.items c.named-call.result false c.self.inside.log c.note.new.self _ c.self.inside.outputs.items c.self.inside.file_0 c.self.inside.file_1
+    agrees_apart (both c.self.inside.opening) c.self.inside.key_files.items c.named-call.result false c.self.inside.log c.note.new.self _ c.self.inside.outputs.items c.self.inside.opened c.self.inside.file_0 c.self.inside.file_1
     c.named-call.ensures c.note.ensures (apart_text _ _ _) c.self.invariant
 
 pub invariant_of-self-in-None : goal.invariant_of-self-in-None
 invariant_of-self-in-None c =
-    agrees_apart (both c.self.inside.opening) c.self.inside.key_files.items c.unnamed-call.result false c.self.inside.log c.note-in-None.new.self _ c.self.inside.outputs.items c.self.inside.file_0 c.self.inside.file_1
+    agrees_apart (both c.self.inside.opening) c.self.inside.key_files.items c.unnamed-call.result false c.self.inside.log c.note-in-None.new.self _ c.self.inside.outputs.items c.self.inside.opened c.self.inside.file_0 c.self.inside.file_1
     c.unnamed-call.ensures c.note-in-None.ensures (apart_text _ _ _) c.self.invariant
 
 pub returns-in-Some-clause-told : goal.returns-in-Some-clause-told

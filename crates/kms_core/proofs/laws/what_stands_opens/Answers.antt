@@ -1,0 +1,5 @@
+use Rattle.kms_core.proofs.DamageLaws.{stands_opens}
+use Rattle.kms_core.proofs.laws.what_stands_opens.Goals as goal
+
+pub returns : goal.returns
+returns c = stands_opens

@@ -1,0 +1,75 @@
+-- The operations on secrets.
+use Rattle.std.specs.Prelude.{ℕ, ◌^◌, ◌&&◌, Bool, true, List, [], ◌∷◌, length, Option, Some, None, Result, Ok, nat_lt, nat_le, find, option_and_then}
+use Rattle.std.specs.Str.{bytes_eq}
+use Rattle.kms_world.specs.Effect.{SecretPut}
+use Rattle.kms_world.specs.Id.{id_at, is_id}
+use Rattle.kms_world.specs.Secret.{attributes_of}
+use Rattle.kms_world.specs.State.{State}
+use Rattle.kms_world.specs.declared.id.Id.{Id}
+use Rattle.kms_world.specs.declared.caller.Caller.{Caller}
+use Rattle.kms_world.specs.declared.body.SecretBody.{SecretBody}
+use Rattle.kms_world.specs.declared.secret.SecretRow.{SecretRow}
+use Rattle.kms_world.specs.declared.secret.SecretKind.TheVariants.{Opaque}
+use Rattle.kms_world.specs.declared.refusal.Field.TheVariants.{Name}
+use Rattle.kms_world.specs.declared.refusal.Refusal.{Refusal}
+use Rattle.kms_world.specs.declared.refusal.Refusal.TheVariants.{BadBody, IdsSpent}
+use Rattle.kms_world.specs.declared.answer.Answer.TheVariants.{Link, Secret}
+use Rattle.kms_world.specs.declared.answer.Link.TheVariants.{Secret as SecretLink}
+use Rattle.kms_model.specs.Done.{Done, ◌>>=◌, only_if, there}
+
+-- an id is left
+abbrev pub has_id : State → Bool
+has_id s = nat_lt s.ids (2 ^ 62)
+
+abbrev pub next_id : State → Id
+next_id s = id_at s.tag s.ids
+
+-- where there is a name, it has at most 255 bytes
+abbrev pub is_short_name : Option (List ℕ) → Bool
+is_short_name None = true
+is_short_name (Some name) = nat_le (length name) 255
+
+-- a new secret of the caller, without a payload
+abbrev pub new_secret : State → Caller → SecretBody → ℕ → SecretRow
+new_secret s caller body t = record {
+  id = next_id s;
+  project = caller.project;
+  creator = caller.user;
+  created = t;
+  updated = t;
+  name = body.name;
+  algorithm = None;
+  bit_length = None;
+  mode = None;
+  kind = Opaque;
+  expiration = None;
+  payload = None;
+  metadata = [];
+}
+
+-- a secret isn't there any more from its expiration on
+abbrev pub is_live : ℕ → Option ℕ → Bool
+is_live t None = true
+is_live t (Some expiration) = nat_lt t expiration
+
+-- the caller's project has this secret under this id at this time
+abbrev pub is_secret : Caller → Id → ℕ → SecretRow → Bool
+is_secret caller id t row = is_id id row.id && bytes_eq row.project caller.project && is_live t row.expiration
+
+-- the secret under the id in a path, if there is one
+abbrev pub secret_at : State → Caller → Option Id → ℕ → Option SecretRow
+secret_at s caller id t = option_and_then (λ i. find (is_secret caller i t) s.secrets) id
+
+-- POST of a secret
+abbrev pub posted : State → Caller → Result SecretBody Refusal → ℕ → Result Done Refusal
+posted s caller body t = do
+  new ← body
+  short ← only_if (is_short_name new.name) (BadBody Name)
+  left ← only_if (has_id s) IdsSpent
+  Ok (record { answer = Link 201 SecretLink (next_id s); effects = SecretPut (new_secret s caller new t) ∷ [] })
+
+-- GET of a secret's attributes
+abbrev pub shown : State → Caller → Option Id → ℕ → Result Done Refusal
+shown s caller id t = do
+  row ← there (secret_at s caller id t)
+  Ok (record { answer = Secret (attributes_of row); effects = [] })
