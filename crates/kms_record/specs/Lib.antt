@@ -1,5 +1,6 @@
 pub mod Acl
 pub mod AclReading
+pub mod ChangeEffect
 pub mod Consumer
 pub mod ConsumerReading
 pub mod Container
@@ -7,6 +8,7 @@ pub mod ContainerReading
 pub mod Fields
 pub mod Grammar
 pub mod GrammarReading
+pub mod Joined
 pub mod Kept
 pub mod Key
 pub mod KeyReading
@@ -14,12 +16,15 @@ pub mod Metadata
 pub mod MetadataReading
 pub mod Order
 pub mod OrderReading
+pub mod Orders
 pub mod Payload
 pub mod PayloadReading
 pub mod Quota
 pub mod QuotaReading
 pub mod Reading
+pub mod Rising
 pub mod SecretPut
 pub mod SecretPutReading
+pub mod SecretsOnly
 pub mod Size
 pub mod Window

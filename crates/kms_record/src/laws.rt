@@ -1,11 +1,17 @@
 //! Laws of the spelling, and of what changes do, as functions that do nothing.
-ghost use Rattle.std.specs.Prelude.{◌≡◌, ◌≢◌, ◌+◌, ◌*◌, ◌^◌, ◌<◌, ◌≤◌, ℕ, List, [], ◌++◌, length, sum_by, Option, Some, None, option_and_then};
+ghost use Rattle.std.specs.Prelude.{◌≡◌, ◌+◌, ◌*◌, ◌^◌, ◌<◌, ◌≤◌, ℕ, List, [], ◌++◌, length, sum_by, true, false, Option, Some, None, option_and_then};
 ghost use Rattle.std.specs.List.{AllByRecursion};
+ghost use Rattle.kms_world.specs.LookUp.{order_of};
+ghost use Rattle.kms_world.specs.declared.id.Id.{Id};
+ghost use Rattle.kms_world.specs.declared.order.OrderRow.{OrderRow};
 ghost use Rattle.kms_world.specs.declared.secret.SecretRow.{SecretRow};
 ghost use Rattle.kms_record.specs.declared.change.Change.{Change};
-ghost use Rattle.kms_record.specs.declared.secret_put.SecretPut.{SecretPut};
 ghost use Rattle.kms_record.specs.SecretPut.{put_of};
-ghost use Rattle.kms_record.specs.Kept.{Kept, HasGivenIds, id_of_count, with_secret, after_change, after_step, after_record};
+ghost use Rattle.kms_record.specs.Kept.{Kept, Part, Records, Base, applies, changed, is_pending, after_change, after_record};
+ghost use Rattle.kms_record.specs.SecretsOnly.{id_of_count, with_secret, after_secret_change, after_secret_record};
+ghost use Rattle.kms_record.specs.Rising.{IsRising};
+ghost use Rattle.kms_record.specs.Orders.{AllNameApart};
+ghost use Rattle.kms_record.specs.Joined.{IsJoined};
 ghost use Rattle.kms_record.specs.Size.{most_bytes};
 ghost use Rattle.kms_record.specs.Grammar.{IsStep, IsStepInRange, IsRecord, IsSnapshot, step_bytes, record_bytes};
 
@@ -42,21 +48,35 @@ pub fn record_of_short_steps_is_short()
 /// The change that puts a new secret, under the next id and with nothing in it but attributes, adds its row.
 pub fn a_new_secret_is_kept()
     ensures { (kept : Kept) (row : SecretRow) → kept.state.ids < 2 ^ 62 → row.id ≡ id_of_count kept kept.state.ids → row.payload ≡ None → row.metadata ≡ []
-        → after_change (Change.SecretPut (put_of kept.state.ids row)) kept ≡ Some (with_secret kept row) }
+        → after_secret_change (Change.SecretPut (put_of kept.state.ids row)) kept ≡ Some (with_secret kept row) }
+{}
+
+/// It does so by the rule of all changes.
+pub fn a_put_secret_is_a_change()
+    ensures { (change : Change) (kept after : Kept) → after_secret_change change kept ≡ Some after → after_change Records change kept ≡ Some after }
 {}
 
 /// The steps of two records apply one behind the other.
 pub fn records_apply_in_order()
-    ensures { (a b : List (List Change)) (kept : Kept) → after_record (a ++ b) kept ≡ option_and_then (after_record b) (after_record a kept) }
+    ensures all { (a b : List (List Change)) (kept : Kept) → after_record (a ++ b) kept ≡ option_and_then (after_record b) (after_record a kept) }
+    ensures secrets { (a b : List (List Change)) (kept : Kept) → after_secret_record (a ++ b) kept ≡ option_and_then (after_secret_record b) (after_secret_record a kept) }
 {}
 
-/// Where each secret has an id that was given, it has one behind every record that applies.
-pub fn ids_are_given()
-    ensures { (steps : List (List Change)) (kept after : Kept) → HasGivenIds kept → after_record steps kept ≡ Some after → HasGivenIds after }
+/// In each table ids rise and were given, whatever change applies, in records and in a base; a base gives no ids; and no
+/// two orders name one id.
+pub fn ids_rise()
+    ensures rise { (part : Part) (change : Change) (kept : Kept) → IsRising kept.state → applies part change kept ≡ true → IsRising (changed change kept).state }
+    ensures base { (change : Change) (kept : Kept) → IsRising kept.state → applies Base change kept ≡ true → (changed change kept).state.ids ≡ kept.state.ids }
+    ensures apart { (part : Part) (change : Change) (kept : Kept) → IsRising kept.state → AllNameApart kept.state.orders → applies part change kept ≡ true → AllNameApart (changed change kept).state.orders }
 {}
 
-/// There a secret that is put is new: no secret has its id.
-pub fn a_secret_that_is_put_is_new()
-    ensures { (put : SecretPut) (kept after : Kept) → HasGivenIds kept → after_change (Change.SecretPut put) kept ≡ Some after
-        → AllByRecursion (λ row. row.id ≢ id_of_count kept put.id) kept.state.secrets }
+/// An order that is no longer pending stays as it is, whatever change applies, or goes.
+pub fn settled_orders_stay()
+    ensures { (part : Part) (kept : Kept) → IsRising kept.state → (id : Id) (a b : OrderRow) → order_of id kept.state.orders ≡ Some a → is_pending a.state ≡ false
+        → (change : Change) → applies part change kept ≡ true → order_of id (changed change kept).state.orders ≡ Some b → b ≡ a }
+{}
+
+/// Consumers and access lists hang on rows that are there, whatever change applies.
+pub fn what_hangs_on_a_row_goes_with_it()
+    ensures { (part : Part) (change : Change) (kept : Kept) → IsJoined kept.state → applies part change kept ≡ true → IsJoined (changed change kept).state }
 {}

@@ -1,5 +1,7 @@
 // Steps, and the steps of a record.
-ghost use Rattle.std.specs.Prelude.{◌≡◌, ◌++◌, [], ◌∷◌, OnOk, OnErr};
+ghost use Rattle.std.specs.Prelude.{◌≡◌, ◌++◌, [], ◌∷◌, ◌↔◌, IsTrue, OnOk, OnErr};
+ghost use Rattle.std.specs.List.{AllByRecursion};
+ghost use Rattle.kms_record.specs.Grammar.{IsChangeInRange, IsStepInRange};
 
 use crate::Change;
 use kms_world::NoMemory;
@@ -19,6 +21,17 @@ impl Model for Step {
     ghost Value = { List Change };
 
     ghost view = { λ s. s.changes.items };
+}
+
+fn is_each_in_range(changes: &[Change]) -> bool
+    ensures { IsTrue result ↔ AllByRecursion IsChangeInRange changes.now }
+{
+    for change in changes {
+        if !change.is_in_range() {
+            return false;
+        }
+    }
+    true
 }
 
 impl Step {
@@ -45,6 +58,13 @@ impl Step {
         ensures { result.now ≡ self.now }
     {
         &self.changes
+    }
+
+    /// It has 1 to 65,535 changes, whose numbers and lengths are in their ranges.
+    pub fn is_in_range(&self) -> bool
+        ensures { IsTrue result ↔ IsStepInRange self.now }
+    {
+        1 <= self.changes.len() && self.changes.len() <= 65_535 && is_each_in_range(&self.changes)
     }
 
     /// The changes, with the memory that they have.
