@@ -1,6 +1,6 @@
 #!/usr/bin/env python3
-"""Computes the tables in crates/kms_record/src/tests.rt again, with a writer and a reader of its own, and ends with
-status 1 where a table differs. With --write it writes the tables into that file.
+"""Computes the tables of the tests in crates/kms_record/src again, with a writer and a reader of its own, and ends with
+status 1 where a table differs. With --write it writes the tables there.
 
 ROWS has bytes and whether they are a record: each kind of change, and each limit at its edge and one past it. MUTATED
 says which of 2,000 changed rows are records, folded into one number. ACCEPTED has, for each place of the record
@@ -10,7 +10,7 @@ import struct
 import sys
 from pathlib import Path
 
-TESTS = Path(__file__).resolve().parent.parent / "crates" / "kms_record" / "src" / "tests.rt"
+SOURCES = Path(__file__).resolve().parent.parent / "crates" / "kms_record" / "src"
 END = 253402300800
 NAME = re.compile(rb"[A-Za-z0-9._-]{1,64}")
 MUTATIONS = 2000
@@ -421,35 +421,29 @@ def accepted():
     return "\n".join([*lines, line]) + "\n"
 
 
-def row_line(data):
-    line = f'    ("{data.hex()}", {str(is_body(data)).lower()}),\n'
-    if len(line.rstrip("\n")) > 100:
-        line = f'    (\n        "{data.hex()}",\n        {str(is_body(data)).lower()},\n    ),\n'
-    return line
-
-
 TABLES = {
-    "ROWS": f"static ROWS: [(&str, bool); {len(ROWS)}] = [\n" + "".join(map(row_line, ROWS)) + "];\n",
-    "ACCEPTED": f"static ACCEPTED: [u16; {len(GOOD)}] = [\n" + accepted() + "];\n",
+    ("rows.rt", "pub static ROWS"): f"pub static ROWS: [&str; {len(ROWS)}] = [\n"
+    + "".join(f'    "{"-+"[is_body(data)]}{data.hex()}",\n' for data in ROWS) + "];\n",
+    ("tests.rt", "static ACCEPTED"): f"static ACCEPTED: [u16; {len(GOOD)}] = [\n" + accepted() + "];\n",
+    ("tests.rt", "const MUTATED"): f"const MUTATED: u64 = {mutated()};\n",
 }
 
 
 def main():
-    source = TESTS.read_text(encoding="utf-8")
-    written = source
-    for name, table in TABLES.items():
-        old = re.compile(rf"static {name}: .*?\n\];\n", re.DOTALL)
-        written, found = old.subn(lambda _: table, written)
+    status = 0
+    for (file, name), table in TABLES.items():
+        path = SOURCES / file
+        source = path.read_text(encoding="utf-8")
+        end = r"\];\n" if "static" in name else r";\n"
+        written, found = re.subn(rf"^{name}: .*?{end}", lambda _: table, source, flags=re.DOTALL | re.MULTILINE)
         if found != 1:
-            sys.exit(f"record_vectors: {TESTS} has {found} tables {name}")
-    written, found = re.subn(r"const MUTATED: u64 = \d+;", f"const MUTATED: u64 = {mutated()};", written)
-    if found != 1:
-        sys.exit(f"record_vectors: {TESTS} has {found} constants MUTATED")
-    if written == source:
-        return
-    if sys.argv[1:] != ["--write"]:
-        sys.exit(f"record_vectors: the tables of {TESTS} differ")
-    TESTS.write_text(written, encoding="utf-8")
+            sys.exit(f"record_vectors: {path} has {found} tables {name}")
+        if written != source and sys.argv[1:] == ["--write"]:
+            path.write_text(written, encoding="utf-8")
+        elif written != source:
+            print(f"record_vectors: {name} of {path} differs", file=sys.stderr)
+            status = 1
+    sys.exit(status)
 
 
 main()

@@ -142,9 +142,9 @@ short_name_codec = refitted name_codec (λ t h. (name_is_short t h, h)) (λ t h.
 pub filled_text_codec : IsCodec text_bytes (λ t. IsFilled t × IsUtf8 t) filled_text_at
 filled_text_codec = refitted (passing_codec (λ t. leb 1 (length t) && leb (length t) 255 && is_utf8 t) text_codec)
     (λ t f.
-        let b = both_true (leb 1 (length t) && leb (length t) 255) (is_utf8 t) f.1 in
-        let c = both_true (leb 1 (length t)) (leb (length t) 255) b.0 in
-        ((leb-true _ _ c.0, leb-true _ _ c.1), IsUtf8-from_is_utf8 t b.1))
+    let b = both_true (leb 1 (length t) && leb (length t) 255) (is_utf8 t) f.1 in
+    let c = both_true (leb 1 (length t)) (leb (length t) 255) b.0 in
+    ((leb-true _ _ c.0, leb-true _ _ c.1), IsUtf8-from_is_utf8 t b.1))
     (λ t b. (omega (arith, b.0.1), rw (le-leb _ _ b.0.0, le-leb _ _ b.0.1, is_utf8-from_IsUtf8 t b.1) refl))
 
 -- ---- tokens and wrapped keys
@@ -236,12 +236,13 @@ option_codec {A} {spell} {F} {read} codec = record {
 pub optional_text_codec : IsCodec (option_bytes text_bytes) (λ o. IfSome o IsShort × IfSome o IsUtf8) (option_at short_text_at)
 optional_text_codec = refitted (option_codec short_text_codec) parted joined
   where
-  parted : (o : Option (List ℕ)) → IfSome o (λ t. IsShort t × IsUtf8 t) → IfSome o IsShort × IfSome o IsUtf8
-  parted None h = (tt, tt)
-  parted (Some t) h = h
-  joined : (o : Option (List ℕ)) → IfSome o IsShort × IfSome o IsUtf8 → IfSome o (λ t. IsShort t × IsUtf8 t)
-  joined None h = tt
-  joined (Some t) h = h
+    parted : (o : Option (List ℕ)) → IfSome o (λ t. IsShort t × IsUtf8 t) → IfSome o IsShort × IfSome o IsUtf8
+    parted None h = (tt, tt)
+    parted (Some t) h = h
+
+    joined : (o : Option (List ℕ)) → IfSome o IsShort × IfSome o IsUtf8 → IfSome o (λ t. IsShort t × IsUtf8 t)
+    joined None h = tt
+    joined (Some t) h = h
 
 mark_takes : (bytes : List ℕ) (x : Bool × List ℕ) → IsBytes bytes → mark_at bytes ≡ Some x → Takes bytes (mark_bytes x.0) x.1 × Unit {0}
 unfolding mark_bytes

@@ -48,23 +48,52 @@ change_again (QuotaPut put) rest fits = rw (quota_put_codec.again put rest fits)
 change_again (Deleted id) rest fits = rw (id_codec.again id rest fits) refl
 
 pub change_codec : IsCodec change_bytes IsChange change_at
-change_codec = alternatives_codec changes_by_kind
-    (made_alternative 1 (λ put. KeyAdded put) wrapped_key_codec (λ put. refl) (λ put f. f),
-    (made_alternative 2 (λ put. KeyRewrapped put) wrapped_key_codec (λ put. refl) (λ put f. f),
-    (made_alternative 3 (λ put. TokenReplaced put) token_replaced_codec (λ put. refl) (λ put f. f),
-    (made_alternative 4 (λ put. KeyDropped put) key_dropped_codec (λ put. refl) (λ put f. f),
-    (made_alternative 5 (λ put. SecretPut put) secret_put_codec (λ put. refl) (λ put f. f),
-    (made_alternative 6 (λ put. PayloadPut put) payload_put_codec (λ put. refl) (λ put f. f),
-    (made_alternative 7 (λ put. MetadataPut put) metadata_put_codec (λ put. refl) (λ put f. f),
-    (made_alternative 8 (λ put. ContainerPut put) container_put_codec (λ put. refl) (λ put f. f),
-    (made_alternative 9 (λ put. ConsumerAdded put) consumer_added_codec (λ put. refl) (λ put f. f),
-    (made_alternative 10 (λ put. ConsumerDropped put) consumer_dropped_codec (λ put. refl) (λ put f. f),
-    (made_alternative 11 (λ put. AclPut put) acl_put_codec (λ put. refl) (λ put f. f),
-    (made_alternative 12 (λ id. AclDropped id) id_codec (λ id. refl) (λ id f. f),
-    (made_alternative 13 (λ put. OrderPut put) order_put_codec (λ put. refl) (λ put f. f),
-    (made_alternative 14 (λ put. QuotaPut put) quota_put_codec (λ put. refl) (λ put f. f),
-    (made_alternative 15 (λ id. Deleted id) id_codec (λ id. refl) (λ id f. f),
-    tt)))))))))))))))
+change_codec = alternatives_codec changes_by_kind (
+  made_alternative 1 (λ put. KeyAdded put) wrapped_key_codec (λ put. refl) (λ put f. f),
+  (
+    made_alternative 2 (λ put. KeyRewrapped put) wrapped_key_codec (λ put. refl) (λ put f. f),
+    (
+      made_alternative 3 (λ put. TokenReplaced put) token_replaced_codec (λ put. refl) (λ put f. f),
+      (
+        made_alternative 4 (λ put. KeyDropped put) key_dropped_codec (λ put. refl) (λ put f. f),
+        (
+          made_alternative 5 (λ put. SecretPut put) secret_put_codec (λ put. refl) (λ put f. f),
+          (
+            made_alternative 6 (λ put. PayloadPut put) payload_put_codec (λ put. refl) (λ put f. f),
+            (
+              made_alternative 7 (λ put. MetadataPut put) metadata_put_codec (λ put. refl) (λ put f. f),
+              (
+                made_alternative 8 (λ put. ContainerPut put) container_put_codec (λ put. refl) (λ put f. f),
+                (
+                  made_alternative 9 (λ put. ConsumerAdded put) consumer_added_codec (λ put. refl) (λ put f. f),
+                  (
+                    made_alternative 10 (λ put. ConsumerDropped put) consumer_dropped_codec (λ put. refl) (λ put f. f),
+                    (
+                      made_alternative 11 (λ put. AclPut put) acl_put_codec (λ put. refl) (λ put f. f),
+                      (
+                        made_alternative 12 (λ id. AclDropped id) id_codec (λ id. refl) (λ id f. f),
+                        (
+                          made_alternative 13 (λ put. OrderPut put) order_put_codec (λ put. refl) (λ put f. f),
+                          (
+                            made_alternative 14 (λ put. QuotaPut put) quota_put_codec (λ put. refl) (λ put f. f),
+                            (
+                              made_alternative 15 (λ id. Deleted id) id_codec (λ id. refl) (λ id f. f),
+                              tt,
+                            ),
+                          ),
+                        ),
+                      ),
+                    ),
+                  ),
+                ),
+              ),
+            ),
+          ),
+        ),
+      ),
+    ),
+  ),
+)
     change_again
 
 pub step_codec : IsCodec step_bytes IsStep step_at

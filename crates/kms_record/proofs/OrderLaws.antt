@@ -24,9 +24,13 @@ state_again (Active secret) rest f = rw (id_codec.again secret rest f) refl
 state_again (Error cause) rest f = rw (cause_codec.again cause rest tt) refl
 
 state_codec : IsCodec state_bytes IsStateInRange state_at
-state_codec = alternatives_codec _
-    (plain_alternative 0 Pending refl tt, (made_alternative 1 (λ secret. Active secret) id_codec (λ secret. refl) (λ secret f. f),
-    (made_alternative 2 (λ cause. Error cause) cause_codec (λ cause. refl) (λ cause f. tt), tt)))
+state_codec = alternatives_codec _ (
+  plain_alternative 0 Pending refl tt,
+  (
+    made_alternative 1 (λ secret. Active secret) id_codec (λ secret. refl) (λ secret f. f),
+    (made_alternative 2 (λ cause. Error cause) cause_codec (λ cause. refl) (λ cause f. tt), tt),
+  ),
+)
     state_again
 
 -- ---- OrderPut

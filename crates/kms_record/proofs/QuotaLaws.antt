@@ -27,9 +27,13 @@ limit_again (Some Unlimited) rest f = refl
 limit_again (Some (AtMost count)) rest f = rw (limit_number_codec.again count rest f) refl
 
 limit_codec : IsCodec limit_bytes IsLimitInRange limit_at
-limit_codec = alternatives_codec _
-    (plain_alternative 0 None refl tt, (plain_alternative 1 (Some Unlimited) refl tt,
-    (made_alternative 2 (λ n. Some (AtMost n)) limit_number_codec (λ n. refl) (λ n f. f), tt)))
+limit_codec = alternatives_codec _ (
+  plain_alternative 0 None refl tt,
+  (
+    plain_alternative 1 (Some Unlimited) refl tt,
+    (made_alternative 2 (λ n. Some (AtMost n)) limit_number_codec (λ n. refl) (λ n f. f), tt),
+  ),
+)
     limit_again
 
 limits_parts : QuotaLimits → LimitFields

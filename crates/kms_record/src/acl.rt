@@ -9,11 +9,9 @@ ghost use Rattle.kms_record.specs.AclReading.{are_apart, users_at, acl_put_at};
 ghost use Rattle.kms_record.specs.Window.{shown};
 
 use crate::cursor::Cursor;
-use crate::fields;
-use crate::range;
 use crate::read_error::ReadError;
-use crate::spell;
 use crate::window::Window;
+use crate::{fields, range, spell};
 use kms_world::{Name, Names};
 use std::alloc::Global;
 
@@ -87,11 +85,7 @@ fn are_others(users: &[Name], name: &Name) -> bool
     users.iter().all(|user| is_other(user, name))
 }
 
-fn read_apart(
-    alloc: Global,
-    cursor: &mut Cursor<'_>,
-    count: u8,
-) -> Result<Names, ReadError>
+fn read_apart(alloc: Global, cursor: &mut Cursor<'_>, count: u8) -> Result<Names, ReadError>
     ensures { Gives (λ x. (x, cursor.new)) result (passing are_apart (many name_at count) cursor.old) }
 {
     let mut users = Names::new(alloc);

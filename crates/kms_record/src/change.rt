@@ -1,11 +1,10 @@
 // Changes of what is kept, and the changes of a snapshot.
 ghost use Rattle.std.specs.Prelude.{◌≡◌, ◌++◌, [], ◌∷◌, OnOk, OnErr};
 
-use crate::range;
-use crate::spell;
 use crate::window::Window;
 use crate::{
-    AclPut, ConsumerAdded, ConsumerDropped, ContainerPut, KeyDropped, MetadataPut, OrderPut, PayloadPut, QuotaPut, SecretPut, TokenReplaced, WrappedKey,
+    AclPut, ConsumerAdded, ConsumerDropped, ContainerPut, KeyDropped, MetadataPut, OrderPut,
+    PayloadPut, QuotaPut, SecretPut, TokenReplaced, WrappedKey, range, spell,
 };
 use kms_world::NoMemory;
 use std::alloc::Global;

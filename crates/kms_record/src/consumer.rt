@@ -4,11 +4,9 @@ ghost use Rattle.kms_record.specs.Reading.{Gives};
 ghost use Rattle.kms_record.specs.ConsumerReading.{consumer_added_at, consumer_dropped_at};
 
 use crate::cursor::Cursor;
-use crate::fields;
-use crate::range;
 use crate::read_error::ReadError;
-use crate::spell;
 use crate::window::Window;
+use crate::{fields, range, spell};
 use kms_world::Text;
 use std::alloc::Global;
 
@@ -27,7 +25,10 @@ pub struct ConsumerAdded {
 
 /// Reads the fields.
 #[tactic(auto, unfolding(crate::specs::ConsumerReading::consumer_added_at))]
-pub fn read_consumer_added(alloc: Global, cursor: &mut Cursor<'_>) -> Result<ConsumerAdded, ReadError>
+pub fn read_consumer_added(
+    alloc: Global,
+    cursor: &mut Cursor<'_>,
+) -> Result<ConsumerAdded, ReadError>
     ensures { Gives (λ x. (x, cursor.new)) result (consumer_added_at cursor.old) }
 {
     Ok(ConsumerAdded {
@@ -78,7 +79,10 @@ pub struct ConsumerDropped {
 
 /// Reads the fields.
 #[tactic(auto, unfolding(crate::specs::ConsumerReading::consumer_dropped_at))]
-pub fn read_consumer_dropped(alloc: Global, cursor: &mut Cursor<'_>) -> Result<ConsumerDropped, ReadError>
+pub fn read_consumer_dropped(
+    alloc: Global,
+    cursor: &mut Cursor<'_>,
+) -> Result<ConsumerDropped, ReadError>
     ensures { Gives (λ x. (x, cursor.new)) result (consumer_dropped_at cursor.old) }
 {
     Ok(ConsumerDropped {
@@ -97,9 +101,7 @@ impl ConsumerDropped {
     pub fn is_in_range(&self) -> bool
         ensures { IsTrue result ↔ IsConsumerDroppedInRange self.now }
     {
-        range::is_id(self.container)
-            && range::is_filled(&self.name)
-            && range::is_filled(&self.url)
+        range::is_id(self.container) && range::is_filled(&self.name) && range::is_filled(&self.url)
     }
 
     /// Writes the fields.
@@ -114,4 +116,3 @@ impl ConsumerDropped {
         spell::filled_text(out, &self.url);
     }
 }
-

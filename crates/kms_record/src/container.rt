@@ -8,13 +8,9 @@ ghost use Rattle.kms_record.specs.ContainerReading.{member_at, members_at, conta
 ghost use Rattle.kms_record.specs.Window.{shown};
 
 use crate::cursor::Cursor;
-use crate::fields;
-use crate::range;
 use crate::read_error::ReadError;
-use crate::spell;
 use crate::window::Window;
-use crate::MemberList;
-use crate::Member;
+use crate::{Member, MemberList, fields, range, spell};
 use kms_world::{ContainerKind, Name, Text};
 use std::alloc::Global;
 

@@ -3,8 +3,8 @@ ghost use Rattle.std.specs.Prelude.{◌≡◌};
 ghost use Rattle.kms_record.specs.Reading.{Finds, Gives, id_at, time_at, bit_length_at, short_text_at, filled_text_at, text_at, long_text_at, token_at, taken, name_at, secret_kind_at, container_kind_at, media_at, cause_at, mark_at, option_at, list_count_at};
 
 use crate::cursor::Cursor;
-use crate::read_error::{Malformed, ReadError};
 use crate::range;
+use crate::read_error::{Malformed, ReadError};
 use kms_world::{Bytes, Cause, ContainerKind, Media, Name, SecretKind, Text};
 use std::alloc::Global;
 
@@ -229,4 +229,3 @@ pub fn optional_time(cursor: &mut Cursor<'_>) -> Result<Option<u64>, Malformed>
     }
     Ok(Some(time(cursor)?))
 }
-

@@ -4,11 +4,9 @@ ghost use Rattle.kms_record.specs.Reading.{Finds};
 ghost use Rattle.kms_record.specs.KeyReading.{wrapped_key_at, key_dropped_at};
 
 use crate::cursor::Cursor;
-use crate::fields;
-use crate::range;
 use crate::read_error::Malformed;
-use crate::spell;
 use crate::window::Window;
+use crate::{fields, range, spell};
 use kms_world::Name;
 
 /// A key of a project, wrapped under a master key.
@@ -98,4 +96,3 @@ impl KeyDropped {
         spell::long_number(out, self.number);
     }
 }
-

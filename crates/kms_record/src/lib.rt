@@ -18,12 +18,14 @@ mod payload;
 mod quota;
 mod range;
 mod read_error;
+#[cfg(test)]
+mod rows;
 mod secret_put;
 mod spell;
 mod step;
-mod window;
 #[cfg(test)]
 mod tests;
+mod window;
 
 pub use acl::AclPut;
 pub use change::{Change, Changes};

@@ -9,11 +9,9 @@ ghost use Rattle.kms_record.specs.MetadataReading.{pair_at, are_ascending, pairs
 ghost use Rattle.kms_record.specs.Window.{shown};
 
 use crate::cursor::Cursor;
-use crate::fields;
-use crate::range;
 use crate::read_error::ReadError;
-use crate::spell;
 use crate::window::Window;
+use crate::{fields, range, spell};
 use kms_world::{Pairs, Text};
 use std::alloc::Global;
 
@@ -89,11 +87,7 @@ fn are_below(pairs: &[(Text, Text)], key: &Text) -> bool
     pairs.iter().all(|pair| comes_before(pair, key))
 }
 
-fn read_ascending(
-    alloc: Global,
-    cursor: &mut Cursor<'_>,
-    count: u8,
-) -> Result<Pairs, ReadError>
+fn read_ascending(alloc: Global, cursor: &mut Cursor<'_>, count: u8) -> Result<Pairs, ReadError>
     ensures { Gives (λ x. (x, cursor.new)) result (passing are_ascending (many pair_at count) cursor.old) }
 {
     let mut pairs = Pairs::new(alloc);

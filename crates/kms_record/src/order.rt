@@ -6,11 +6,9 @@ ghost use Rattle.kms_record.specs.OrderReading.{state_at, order_put_at};
 ghost use Rattle.kms_record.specs.Window.{shown};
 
 use crate::cursor::Cursor;
-use crate::fields;
-use crate::range;
 use crate::read_error::{Malformed, ReadError};
-use crate::spell;
 use crate::window::Window;
+use crate::{fields, range, spell};
 use kms_world::{Cause, Name, Text};
 use std::alloc::Global;
 

@@ -4,11 +4,9 @@ ghost use Rattle.kms_record.specs.Reading.{Gives};
 ghost use Rattle.kms_record.specs.PayloadReading.{token_replaced_at, payload_put_at};
 
 use crate::cursor::Cursor;
-use crate::fields;
-use crate::range;
 use crate::read_error::ReadError;
-use crate::spell;
 use crate::window::Window;
+use crate::{fields, range, spell};
 use kms_world::{Bytes, Media};
 use std::alloc::Global;
 
@@ -25,7 +23,10 @@ pub struct TokenReplaced {
 
 /// Reads the fields.
 #[tactic(auto, unfolding(crate::specs::PayloadReading::token_replaced_at))]
-pub fn read_token_replaced(alloc: Global, cursor: &mut Cursor<'_>) -> Result<TokenReplaced, ReadError>
+pub fn read_token_replaced(
+    alloc: Global,
+    cursor: &mut Cursor<'_>,
+) -> Result<TokenReplaced, ReadError>
     ensures { Gives (λ x. (x, cursor.new)) result (token_replaced_at cursor.old) }
 {
     Ok(TokenReplaced {
@@ -44,8 +45,7 @@ impl TokenReplaced {
     pub fn is_in_range(&self) -> bool
         ensures { IsTrue result ↔ IsTokenReplacedInRange self.now }
     {
-        range::is_id(self.secret)
-            && range::is_token(&self.token)
+        range::is_id(self.secret) && range::is_token(&self.token)
     }
 
     /// Writes the fields.
@@ -98,9 +98,7 @@ impl PayloadPut {
     pub fn is_in_range(&self) -> bool
         ensures { IsTrue result ↔ IsPayloadPutInRange self.now }
     {
-        range::is_id(self.secret)
-            && range::is_time(self.updated)
-            && range::is_token(&self.token)
+        range::is_id(self.secret) && range::is_time(self.updated) && range::is_token(&self.token)
     }
 
     /// Writes the fields.
@@ -117,4 +115,3 @@ impl PayloadPut {
         spell::token(out, &self.token);
     }
 }
-

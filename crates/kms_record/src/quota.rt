@@ -7,11 +7,9 @@ ghost use Rattle.kms_record.specs.QuotaReading.{limit_number_at, limit_at, quota
 ghost use Rattle.kms_record.specs.Window.{shown};
 
 use crate::cursor::Cursor;
-use crate::fields;
-use crate::range;
 use crate::read_error::Malformed;
-use crate::spell;
 use crate::window::Window;
+use crate::{fields, range, spell};
 use kms_world::Name;
 
 /// A limit of a quota.
@@ -58,8 +56,7 @@ impl QuotaPut {
     pub fn is_in_range(&self) -> bool
         ensures { IsTrue result ↔ IsQuotaPutInRange self.now }
     {
-        range::is_short_name(&self.project)
-            && are_optional_limits_in_range(self.limits)
+        range::is_short_name(&self.project) && are_optional_limits_in_range(self.limits)
     }
 
     /// Writes the fields.

@@ -4,11 +4,9 @@ ghost use Rattle.kms_record.specs.Reading.{Gives};
 ghost use Rattle.kms_record.specs.SecretPutReading.{secret_put_at};
 
 use crate::cursor::Cursor;
-use crate::fields;
-use crate::range;
 use crate::read_error::ReadError;
-use crate::spell;
 use crate::window::Window;
+use crate::{fields, range, spell};
 use kms_world::{Bytes, Name, NoMemory, Pairs, SecretKind, SecretRow, Text, id_of};
 use std::alloc::Global;
 

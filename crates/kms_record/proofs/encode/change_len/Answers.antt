@@ -10,4 +10,4 @@ pub returns-clause-len : goal.returns-clause-len
 returns-clause-len c =
     ap (λ (n : ℕ). 18446744073709551615 - n) c.unseen.ensures
     ∙ passed_count c.after-window.result c.write.new.out (change_bytes c.args.change.now) 18446744073709551615 c.write.ensures.spelled (ap (λ (s : Shown). s.unseen) c.after-window.ensures)
-      (omega (arith, change_is_short c.args.change.now c.requires, most_is_few c.args.change.now))
+    (omega (arith, change_is_short c.args.change.now c.requires, most_is_few c.args.change.now))

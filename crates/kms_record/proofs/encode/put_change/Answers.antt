@@ -20,8 +20,8 @@ loop-from-smaller c =
     let some : 0 < length piece = window_is_some c.loop-from.from bytes piece (omega (arith, lt, c.change_len-len.ensures.len)) is in
     smaller c.change_len-len.result c.loop-from.from (length piece) lt some
   where
-  smaller : (n from k : ℕ) → from < n → 0 < k → n - (from + k) < n - from
-  smaller n from k lt some = omega (arith, lt, some)
+    smaller : (n from k : ℕ) → from < n → 0 < k → n - (from + k) < n - from
+    smaller n from k lt some = omega (arith, lt, some)
 
 pub loop-from-preserved : goal.loop-from-preserved
 loop-from-preserved c =

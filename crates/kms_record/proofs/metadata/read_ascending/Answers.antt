@@ -5,7 +5,6 @@ use Rattle.kms_record.specs.MetadataReading.{pair_at, are_ascending}
 use Rattle.kms_record.specs.Reading.{many, passing}
 use Rattle.kms_record.proofs.PairwiseLaws.{tested_begins, tested_goes_on, tested_ends, tested_refuses, tested_is_done}
 use Rattle.std.proofs.lemmas.Result.{err_from_is_err_and}
-
 use Rattle.kms_record.proofs.metadata.read_ascending.Goals as goal
 
 pub loop-init : goal.loop-init
