@@ -1,5 +1,6 @@
 pub mod Acl
 pub mod AclReading
+pub mod Base
 pub mod ChangeEffect
 pub mod Consumer
 pub mod ConsumerReading

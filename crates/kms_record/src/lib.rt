@@ -2,6 +2,7 @@
 #![tactic(auto)]
 
 mod acl;
+mod base;
 mod change;
 mod consumer;
 mod container;
@@ -28,6 +29,7 @@ mod tests;
 mod window;
 
 pub use acl::AclPut;
+pub use base::BaseChange;
 pub use change::{Change, Changes};
 pub use consumer::{ConsumerAdded, ConsumerDropped};
 pub use container::ContainerPut;

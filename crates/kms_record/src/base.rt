@@ -1,0 +1,146 @@
+// The rows of a snapshot to bytes, a piece at a time and without memory.
+ghost use Rattle.std.specs.Prelude.{◌≡◌, ◌≤◌, ◌<◌, ◌^◌, ◌+◌, ◌-◌, length, take, drop, min, option_map, IfSome};
+ghost use Rattle.std.specs.List.{flat_map, AllByRecursion};
+ghost use Rattle.kms_record.specs.Acl.{acl_put_bytes, IsAclPutInRange};
+ghost use Rattle.kms_record.specs.Base.{count_of, put_state, limit_of, member_of, payload_put_of, metadata_put_of, container_put_of, consumer_added_of, acl_put_of, order_put_of, quota_limits_of, quota_put_of, base_bytes, IsBaseInRange};
+ghost use Rattle.kms_record.specs.Consumer.{consumer_added_bytes, IsConsumerAddedInRange};
+ghost use Rattle.kms_record.specs.Container.{member_bytes, container_put_bytes, IsContainerPutInRange, IsMemberInRange, AreMembersInRange};
+ghost use Rattle.kms_record.specs.Fields.{list_bytes};
+ghost use Rattle.kms_record.specs.Metadata.{metadata_put_bytes, IsMetadataPutInRange};
+ghost use Rattle.kms_record.specs.Order.{order_put_bytes, IsOrderPutInRange};
+ghost use Rattle.kms_record.specs.Payload.{payload_put_bytes, IsPayloadPutInRange};
+ghost use Rattle.kms_record.specs.Quota.{quota_put_bytes, IsQuotaPutInRange};
+ghost use Rattle.kms_record.specs.SecretPut.{secret_put_bytes, put_of, IsInRange};
+ghost use Rattle.kms_record.specs.Window.{shown};
+
+use crate::acl::write_users;
+use crate::metadata::write_pairs;
+use crate::order::write_state;
+use crate::quota::write_limits;
+use crate::spell;
+use crate::window::Window;
+use crate::{OrderPutState, QuotaLimit, QuotaLimits, WrappedKey};
+use kms_world::{
+    AclRow, ConsumerRow, ContainerRow, Id, OrderRow, OrderState, Payload, QuotaRow, SecretRow, Text,
+};
+
+/// A change of a snapshot, by the row that it puts. A payload's bytes are its token, and its secret's row has one.
+pub enum BaseChange<'a> {
+    Key(&'a WrappedKey),
+    Secret(&'a SecretRow),
+    /// the secret's payload, and the number of the key that its token is under
+    Payload(&'a SecretRow, u32),
+    Metadata(&'a SecretRow),
+    Container(&'a ContainerRow),
+    Consumer(&'a ConsumerRow),
+    Acl(&'a AclRow),
+    Order(&'a OrderRow),
+    Quota(&'a QuotaRow),
+}
+
+// The count of an id, in its last 62 bits.
+fn count_of(id: Id) -> u64
+    ensures { result ≡ count_of id }
+{
+    (id.0 % 0x4000_0000_0000_0000) as u64
+}
+
+#[tactic(auto, using(crate::proofs::WindowLaws::shown_twice), unfolding(crate::specs::SecretPut::secret_put_bytes))]
+fn write_secret(out: &mut Window, row: &SecretRow)
+    requires { IsInRange (put_of (count_of row.now.id) row.now) }
+    ensures { out.new ≡ shown out.old (secret_put_bytes (put_of (count_of row.now.id) row.now)) }
+{
+    spell::number(out, count_of(row.id));
+    spell::name(out, &row.project);
+    spell::name(out, &row.creator);
+    spell::number(out, row.created);
+    spell::number(out, row.updated);
+    spell::optional_text(out, &row.name);
+    spell::optional_text(out, &row.algorithm);
+    spell::optional_bit_length(out, row.bit_length);
+    spell::optional_text(out, &row.mode);
+    spell::secret_kind(out, row.kind);
+    spell::optional_time(out, row.expiration);
+}
+
+#[tactic(auto, using(crate::proofs::WindowLaws::shown_twice), unfolding(crate::specs::Payload::payload_put_bytes))]
+fn write_payload(out: &mut Window, row: &SecretRow, number: u32, payload: &Payload)
+    requires { IsPayloadPutInRange (payload_put_of row.now number payload.now) }
+    ensures { out.new ≡ shown out.old (payload_put_bytes (payload_put_of row.now number payload.now)) }
+{
+    spell::number(out, count_of(row.id));
+    spell::number(out, row.updated);
+    spell::media(out, payload.media);
+    spell::long_number(out, number);
+    spell::token(out, &payload.bytes);
+}
+
+#[tactic(auto, using(crate::proofs::WindowLaws::shown_twice), unfolding(crate::specs::Metadata::metadata_put_bytes))]
+fn write_metadata(out: &mut Window, row: &SecretRow)
+    requires { IsMetadataPutInRange (metadata_put_of row.now) }
+    ensures { out.new ≡ shown out.old (metadata_put_bytes (metadata_put_of row.now)) }
+{
+    spell::number(out, count_of(row.id));
+    spell::number(out, row.updated);
+    write_pairs(out, &row.metadata);
+}
+
+#[tactic(auto, using(crate::proofs::WindowLaws::shown_twice), unfolding(crate::specs::Consumer::consumer_added_bytes))]
+fn write_consumer(out: &mut Window, row: &ConsumerRow)
+    requires { IsConsumerAddedInRange (consumer_added_of row.now) }
+    ensures { out.new ≡ shown out.old (consumer_added_bytes (consumer_added_of row.now)) }
+{
+    spell::number(out, count_of(row.container));
+    spell::filled_text(out, &row.name);
+    spell::filled_text(out, &row.url);
+    spell::number(out, row.created);
+}
+
+#[tactic(auto, using(crate::proofs::WindowLaws::shown_twice), unfolding(crate::specs::Acl::acl_put_bytes))]
+fn write_acl(out: &mut Window, row: &AclRow)
+    requires { IsAclPutInRange (acl_put_of row.now) }
+    ensures { out.new ≡ shown out.old (acl_put_bytes (acl_put_of row.now)) }
+{
+    spell::number(out, count_of(row.target));
+    spell::mark(out, row.project_access);
+    spell::number(out, row.created);
+    spell::number(out, row.updated);
+    write_users(out, &row.users);
+}
+
+fn put_state(state: OrderState) -> OrderPutState
+    ensures { result ≡ put_state state }
+{
+    match state {
+        OrderState::Pending => OrderPutState::Pending,
+        OrderState::Active(secret) => OrderPutState::Active(count_of(secret)),
+        OrderState::Error(cause) => OrderPutState::Error(cause),
+    }
+}
+
+#[tactic(auto, using(crate::proofs::WindowLaws::shown_twice), unfolding(crate::specs::Order::order_put_bytes))]
+fn write_order(out: &mut Window, row: &OrderRow)
+    requires { IsOrderPutInRange (order_put_of row.now) }
+    ensures { out.new ≡ shown out.old (order_put_bytes (order_put_of row.now)) }
+{
+    spell::number(out, count_of(row.id));
+    spell::name(out, &row.project);
+    spell::name(out, &row.creator);
+    spell::number(out, row.created);
+    spell::number(out, row.updated);
+    spell::filled_text(out, &row.algorithm);
+    spell::short_number(out, row.bit_length);
+    spell::optional_text(out, &row.mode);
+    spell::optional_text(out, &row.name);
+    spell::optional_time(out, row.expiration);
+    write_state(out, put_state(row.state));
+}
+
+#[tactic(auto, using(crate::proofs::WindowLaws::shown_twice), unfolding(crate::specs::Container::member_bytes))]
+fn write_member(out: &mut Window, member: &(Option<Text>, Id))
+    requires { IsMemberInRange (member_of member.now) }
+    ensures { out.new ≡ shown out.old (member_bytes (member_of member.now)) }
+{
+    spell::optional_text(out, &member.0);
+    spell::number(out, count_of(member.1));
+}
