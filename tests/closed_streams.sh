@@ -74,7 +74,7 @@ closed_pipe() {
     process=$!
     exec 3>asking
     : <answering
-    cat "$here/examples/post.http" >&3
+    cat "$here/examples/post.http" >&3 || fail "the program ended before its request"
     exec 3>&-
     status=0
     wait "$process" || status=$?

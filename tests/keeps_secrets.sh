@@ -45,7 +45,7 @@ mkfifo line
 "$program" pipe --store s --keys k --endpoint http://k/v1 <line >first &
 process=$!
 exec 3>line
-cat "$here/examples/post.http" >&3
+cat "$here/examples/post.http" >&3 || fail "the program ended before its request"
 waited=0
 while [ -z "$(secrets_of first)" ]; do
     waited=$((waited + 1))
