@@ -35,7 +35,7 @@ pub record IsWriting (file at n : ℕ) (was h : History) : Type 0 where
   pub others : others h ≡ others was
   pub syncs : syncs h.calls ≤ syncs was.calls + 1
 
--- the piece is written, and on the disk where the answer is Ok
+-- the piece is written, and synced where the answer is Ok
 pub record WritesThrough {T E : Type 0} (file at : ℕ) (piece : List ℕ) (result : Result T E) (was now : History) : Type 0 where
   pub throughout : Throughout (IsWriting file at (length piece) was) was now
   pub done : OnOk result (disk file now ≡ at_rest (put (reads file was) at piece))

@@ -18,7 +18,7 @@ page_of_list rows query =
 abbrev pub rows_at : {X : Type 0} → List X → List ℕ → List X
 rows_at rows places = filter_map (slice_get rows) places
 
--- the places of all rows that pass, by the query's keys and then by creation
+-- the places of all rows that pass, by the query's keys and then by their places
 unfoldable pub ordered : List SecretRow → List ℕ → Query → List ℕ
 ordered rows shown query = sorted (place_cmp rows query.sort) (filtered rows shown query)
 

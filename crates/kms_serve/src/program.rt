@@ -37,7 +37,7 @@ fn serve_store<H: Host>(alloc: Global, store: &str, endpoint: &str, host: &mut H
 /// The program. `init --store NAME` creates a store with nothing in it, and is refused where there is one. `pipe --store
 /// NAME --keys NAME --endpoint TEXT`, its words in this order, opens a store, and is refused where there is none or it is
 /// damaged; then it answers the requests of line 0 in their order, each as the plain key manager does. What a request
-/// changes is on the disk before the first byte of its reply is sent.
+/// changes is written and synced before the first byte of its reply is sent.
 ///
 /// Where the host tells its calls and the store's files stand for a state when the run begins: what was sent by each
 /// moment is what the plain key manager answers, as far as it went, with a constant reply for a request that was out of
