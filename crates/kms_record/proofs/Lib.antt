@@ -12,6 +12,7 @@ pub mod KeptLists
 pub mod KeyLaws
 pub mod ListLaws
 pub mod ManyLaws
+pub mod MemberLaws
 pub mod MetadataLaws
 pub mod OrderKeeping
 pub mod OrderLaws
