@@ -19,6 +19,7 @@ pub mod OrderLaws
 pub mod PairwiseLaws
 pub mod PayloadLaws
 pub mod QuotaLaws
+pub mod PieceLaws
 pub mod RisingLaws
 pub mod SecretLaws
 pub mod SettledLaws

@@ -222,9 +222,9 @@ impl<'a> BaseChange<'a> {
     ghost use Rattle.kms_record.specs.Base.{base_bytes, IsBaseInRange};
     ghost use Rattle.kms_record.specs.Window.{shown};
 
-    // Writes the byte of its kind, and its fields.
+    /// Writes the byte of its kind, and its fields.
     #[tactic(auto, using(crate::proofs::WindowLaws::shown_twice), unfolding(crate::specs::Fields::u8_bytes))]
-    fn write(&self, out: &mut Window)
+    pub(crate) fn write(&self, out: &mut Window)
         requires { IsBaseInRange self.now }
         ensures { out.new ≡ shown out.old (base_bytes self.now) }
     {
