@@ -12,12 +12,14 @@ pub mod KeptLists
 pub mod KeyLaws
 pub mod ListLaws
 pub mod ManyLaws
+pub mod MemberLaws
 pub mod MetadataLaws
 pub mod OrderKeeping
 pub mod OrderLaws
 pub mod PairwiseLaws
 pub mod PayloadLaws
 pub mod QuotaLaws
+pub mod PieceLaws
 pub mod RisingLaws
 pub mod SecretLaws
 pub mod SettledLaws

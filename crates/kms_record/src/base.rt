@@ -1,5 +1,5 @@
 // The rows of a snapshot to bytes, a piece at a time and without memory.
-ghost use Rattle.std.specs.Prelude.{◌≡◌, ◌≤◌, ◌<◌, ◌^◌, ◌+◌, ◌-◌, length, take, drop, min, option_map, IfSome};
+ghost use Rattle.std.specs.Prelude.{◌≡◌, ◌≤◌, ◌<◌, ◌^◌, ◌+◌, ◌-◌, length, map, take, drop, min, Option, Some, option_map, IfSome};
 ghost use Rattle.std.specs.List.{flat_map, AllByRecursion};
 ghost use Rattle.kms_record.specs.Acl.{acl_put_bytes, IsAclPutInRange};
 ghost use Rattle.kms_record.specs.Base.{count_of, put_state, limit_of, member_of, payload_put_of, metadata_put_of, container_put_of, consumer_added_of, acl_put_of, order_put_of, quota_limits_of, quota_put_of, base_bytes, IsBaseInRange};
@@ -9,7 +9,7 @@ ghost use Rattle.kms_record.specs.Fields.{list_bytes};
 ghost use Rattle.kms_record.specs.Metadata.{metadata_put_bytes, IsMetadataPutInRange};
 ghost use Rattle.kms_record.specs.Order.{order_put_bytes, IsOrderPutInRange};
 ghost use Rattle.kms_record.specs.Payload.{payload_put_bytes, IsPayloadPutInRange};
-ghost use Rattle.kms_record.specs.Quota.{quota_put_bytes, IsQuotaPutInRange};
+ghost use Rattle.kms_record.specs.Quota.{quota_put_bytes, IsLimitInRange, IsQuotaPutInRange};
 ghost use Rattle.kms_record.specs.SecretPut.{secret_put_bytes, put_of, IsInRange};
 ghost use Rattle.kms_record.specs.Window.{shown};
 
@@ -143,4 +143,130 @@ fn write_member(out: &mut Window, member: &(Option<Text>, Id))
 {
     spell::optional_text(out, &member.0);
     spell::number(out, count_of(member.1));
+}
+
+fn write_each_member(out: &mut Window, members: &[(Option<Text>, Id)])
+    requires { AllByRecursion IsMemberInRange (map member_of members.now) }
+    ensures { out.new ≡ shown out.old (flat_map member_bytes (map member_of members.now)) }
+{
+    for member in members {
+        write_member(out, member);
+    }
+}
+
+#[tactic(auto, using(crate::proofs::WindowLaws::shown_twice), unfolding(crate::specs::Container::container_put_bytes))]
+fn write_container(out: &mut Window, row: &ContainerRow)
+    requires { IsContainerPutInRange (container_put_of row.now) }
+    ensures { out.new ≡ shown out.old (container_put_bytes (container_put_of row.now)) }
+{
+    spell::number(out, count_of(row.id));
+    spell::name(out, &row.project);
+    spell::name(out, &row.creator);
+    spell::number(out, row.created);
+    spell::number(out, row.updated);
+    spell::optional_text(out, &row.name);
+    spell::container_kind(out, row.kind);
+    write_members(out, row.secrets.as_slice());
+}
+
+#[tactic(auto, using(crate::proofs::WindowLaws::shown_twice, crate::proofs::MemberLaws::length_members))]
+fn write_members(out: &mut Window, members: &[(Option<Text>, Id)])
+    requires { AreMembersInRange (map member_of members.now) }
+    ensures { out.new ≡ shown out.old (list_bytes member_bytes (map member_of members.now)) }
+{
+    spell::byte(out, members.len() as u8);
+    write_each_member(out, members);
+}
+
+fn limit_of(value: i64) -> QuotaLimit
+    requires { IsLimitInRange (Some (limit_of value)) }
+    ensures { result ≡ limit_of value }
+{
+    if value < 0 {
+        QuotaLimit::Unlimited
+    } else {
+        QuotaLimit::AtMost(value as u32)
+    }
+}
+
+fn optional_limit_of(value: Option<i64>) -> Option<QuotaLimit>
+    requires { IsLimitInRange (option_map limit_of value) }
+    ensures { result ≡ option_map limit_of value }
+{
+    match value {
+        None => None,
+        Some(value) => Some(limit_of(value)),
+    }
+}
+
+#[tactic(auto, using(crate::proofs::WindowLaws::shown_twice), unfolding(crate::specs::Quota::quota_put_bytes, crate::specs::Fields::u8_bytes))]
+fn write_quota(out: &mut Window, row: &QuotaRow)
+    requires { IsQuotaPutInRange (quota_put_of row.now) }
+    ensures { out.new ≡ shown out.old (quota_put_bytes (quota_put_of row.now)) }
+{
+    spell::name(out, &row.project);
+    spell::byte(out, 1);
+    write_limits(
+        out,
+        QuotaLimits {
+            secrets: optional_limit_of(row.secrets),
+            orders: optional_limit_of(row.orders),
+            containers: optional_limit_of(row.containers),
+            consumers: optional_limit_of(row.consumers),
+        },
+    );
+}
+
+impl<'a> BaseChange<'a> {
+    ghost use Rattle.std.specs.Prelude.{◌≡◌};
+    ghost use Rattle.kms_record.specs.Base.{base_bytes, IsBaseInRange};
+    ghost use Rattle.kms_record.specs.Window.{shown};
+
+    /// Writes the byte of its kind, and its fields.
+    #[tactic(auto, using(crate::proofs::WindowLaws::shown_twice), unfolding(crate::specs::Fields::u8_bytes))]
+    pub(crate) fn write(&self, out: &mut Window)
+        requires { IsBaseInRange self.now }
+        ensures { out.new ≡ shown out.old (base_bytes self.now) }
+    {
+        match self {
+            BaseChange::Key(key) => {
+                spell::byte(out, 1);
+                key.write(out);
+            }
+            BaseChange::Secret(row) => {
+                spell::byte(out, 5);
+                write_secret(out, row);
+            }
+            BaseChange::Payload(row, number) => {
+                if let Some(payload) = &row.payload {
+                    spell::byte(out, 6);
+                    write_payload(out, row, *number, payload);
+                }
+            }
+            BaseChange::Metadata(row) => {
+                spell::byte(out, 7);
+                write_metadata(out, row);
+            }
+            BaseChange::Container(row) => {
+                spell::byte(out, 8);
+                write_container(out, row);
+            }
+            BaseChange::Consumer(row) => {
+                spell::byte(out, 9);
+                write_consumer(out, row);
+            }
+            BaseChange::Acl(row) => {
+                spell::byte(out, 11);
+                write_acl(out, row);
+            }
+            BaseChange::Order(row) => {
+                spell::byte(out, 13);
+                write_order(out, row);
+            }
+            BaseChange::Quota(row) => {
+                spell::byte(out, 14);
+                write_quota(out, row);
+            }
+        }
+    }
 }
