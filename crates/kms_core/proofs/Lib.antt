@@ -1,5 +1,6 @@
 pub mod DamageLaws
 pub mod FoundLaws
+pub mod KeysLaws
 pub mod LoadLaws
 pub mod PostLaws
 pub mod RouteLaws

@@ -17,7 +17,8 @@ use Rattle.kms_journal.specs.declared.fault.JournalFault.TheVariants as journal
 use Rattle.kms_journal.specs.declared.fault.Place.{Place}
 use Rattle.kms_journal.specs.declared.fault.Place.TheVariants.{Body}
 use Rattle.kms_journal.proofs.ReadingLaws.{same_reads, same_files, quiet_after, attached_after}
-use Rattle.kms_core.specs.Stands.{LeadTo, BreakAt, IsDamagedAt, KeptOf}
+use Rattle.kms_core.specs.Stands.{LeadTo, BreakAt, IsDamagedAt, KeptOf, kept_as}
+use Rattle.kms_core.proofs.KeysLaws.{only_state}
 use Rattle.kms_core.specs.Loading.{IsBrokenAt, IsFirstDamage, Loads, Refuses}
 use Rattle.kms_core.specs.Starting.{IsRefusal, OpensJournal, Starts}
 use Rattle.kms_core.specs.Steps.{Held}
@@ -120,8 +121,8 @@ module _ (p : Position) (was mid now : History) (o : OpensJournal (Ok p) was mid
         let s = o.answer.0 in
         let g = gathers s o.answer.2 in
         let loads : Loads (chain_of s) (Ok kept) = subst (λ (c : Chain). Loads c (Ok kept)) g.answer l in
-        let keeps : KeptOf s kept = record { whole = o.answer.2.whole; empty_snapshot = loads.0; records = loads.1 } in
-        let steps = kept_counts s kept keeps in
+        let keeps = only_state s kept (record { whole = o.answer.2.whole; empty_snapshot = loads.0; records = loads.1 }) in
+        let steps = kept_counts s (kept_as kept.state) keeps in
         let now_placed = placed_after p s mid now g.throughout o.answer.2 in
         subst (λ (x : Held). Starts (Ok x) was now) (sym is) (record {
           throughout = during g.throughout;
