@@ -1,7 +1,7 @@
 -- Bytes that are read ahead of their use.
-use Rattle.std.proofs.Common.{◌≡◌, ◌⊎◌, inl, inr, ℕ, ◌+◌, ◌-◌, ◌≤◌, min, List, [], ◌++◌, length, take, drop, refl, sym, ◌∙◌, ap, subst, arith, length-append, length-drop}
+use Rattle.std.proofs.Common.{◌≡◌, ◌⊎◌, inl, inr, ℕ, ◌+◌, ◌-◌, ◌≤◌, min, List, [], ◌++◌, length, take, drop, sym, ◌∙◌, ap, arith, length-append, length-drop}
 use Rattle.std.proofs.Math.Seq.{take-add}
-use Rattle.std.proofs.lemmas.List.{drop-drop, drop-take, drop_all, take_all, take_min, take-take, length-take, length-take-le}
+use Rattle.std.proofs.lemmas.List.{drop-drop, drop-take, drop_all, take_all, take_min, take-take, length-take}
 use Rattle.std.proofs.lemmas.Bool.{cases_lt}
 use Rattle.kms_host.specs.History.{History, HasFirst}
 use Rattle.kms_host.specs.Disk.{reads}

@@ -1,5 +1,5 @@
 -- What a buffer holds once it read on.
-use Rattle.std.proofs.Common.{◌≡◌, ℕ, ◌+◌, ◌-◌, ◌≤◌, List, [], ◌++◌, length, take, drop, refl, sym, ◌∙◌, ap, arith, length-append, length-drop, append_assoc}
+use Rattle.std.proofs.Common.{◌≡◌, ℕ, ◌+◌, ◌-◌, ◌≤◌, List, ◌++◌, length, take, drop, sym, ◌∙◌, ap, arith, length-drop, append_assoc}
 use Rattle.std.proofs.lemmas.List.{take_at, take-take, take-append-le, drop-take, append-nil, length-take-le}
 use Rattle.kms_journal.proofs.RepairLaws.{take_past}
 

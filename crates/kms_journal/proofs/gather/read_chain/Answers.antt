@@ -1,9 +1,7 @@
-use Rattle.std.proofs.Common.{◌≡◌, ◌∙◌, ◌+◌, ◌≤◌, ℕ, List, length, ap, sym, subst, arith, false}
+use Rattle.std.proofs.Common.{◌≡◌, ◌∙◌, ◌+◌, ◌≤◌, ℕ, List, length, ap, sym, subst, arith}
 use Rattle.std.proofs.lemmas.Result.{err_from_is_err_and}
 use Rattle.kms_host.specs.Disk.{reads}
-use Rattle.kms_host.specs.History.{History}
-use Rattle.kms_host.proofs.FaultLaws.{stops_then}
-use Rattle.kms_host.proofs.Moments.{tells_then, tells_weaker, known_with_told}
+use Rattle.kms_host.proofs.Moments.{tells_then, known_with_told}
 use Rattle.kms_journal.specs.Ahead.{IsAhead}
 use Rattle.kms_journal.specs.Walk.{records_at, StopsAs}
 use Rattle.kms_journal.specs.declared.chain.Chain.{Chain}

@@ -1,13 +1,11 @@
-use Rattle.std.proofs.Common.{◌∙◌, ap, sym, subst, length}
+use Rattle.std.proofs.Common.{◌∙◌, sym, subst}
 use Rattle.std.specs.Prelude.{Err}
 use Rattle.std.proofs.lemmas.Result.{err_from_is_err_and}
 use Rattle.kms_host.specs.Disk.{reads}
-use Rattle.kms_host.proofs.FaultLaws.{stops_same}
-use Rattle.kms_host.proofs.Moments.{tells_then, tells_weaker, tells_nothing, known_with_told}
-use Rattle.kms_journal.specs.Answers.{chain_at}
+use Rattle.kms_host.proofs.Moments.{tells_weaker, tells_nothing}
 use Rattle.kms_journal.specs.Recovery.{IsChecked}
 use Rattle.kms_journal.proofs.OpeningLaws.{checked_whole, checked_record, checked_snapshot, gathered_checked}
-use Rattle.kms_journal.proofs.ReadingLaws.{no_read, reading_then, same_reads, attached_after}
+use Rattle.kms_journal.proofs.ReadingLaws.{no_read}
 use Rattle.kms_journal.proofs.recovery.check.Goals as goal
 
 pub returns-then-not-is_based-clause-told : goal.returns-then-not-is_based-clause-told

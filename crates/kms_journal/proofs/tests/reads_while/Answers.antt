@@ -1,4 +1,4 @@
-use Rattle.std.proofs.Common.{◌≡◌, sym, subst}
+use Rattle.std.proofs.Common.{sym, subst}
 use Rattle.std.specs.Prelude.{Option}
 use Rattle.kms_host.specs.History.{History, WhereTold}
 use Rattle.kms_host.proofs.Moments.{known_with_told, at_last}

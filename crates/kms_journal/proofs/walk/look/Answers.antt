@@ -1,7 +1,6 @@
-use Rattle.std.proofs.Common.{◌≡◌, ◌∙◌, ◌+◌, ◌-◌, ◌≤◌, ℕ, List, min, length, take, drop, ap, sym, subst, arith, length-drop}
+use Rattle.std.proofs.Common.{◌≡◌, ◌∙◌, ◌+◌, ◌-◌, ℕ, List, length, drop, sym, subst, arith, length-drop}
 use Rattle.std.proofs.lemmas.Result.{err_from_is_err_and}
 use Rattle.kms_host.specs.Disk.{reads}
-use Rattle.kms_host.specs.History.{History}
 use Rattle.kms_host.proofs.Moments.{tells_weaker}
 use Rattle.kms_journal.specs.Ahead.{IsAhead}
 use Rattle.kms_journal.proofs.AheadLaws.{ahead_skip, ahead_head}

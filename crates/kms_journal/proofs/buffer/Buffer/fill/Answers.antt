@@ -1,11 +1,10 @@
 use Rattle.std.proofs.Common.{rules, ◌≡◌, ◌+◌, ◌-◌, ◌∙◌, ◌++◌, List, ℕ, ◌≤◌, min, length, take, drop, sym, subst, ap, arith, length-drop}
-use Rattle.std.specs.Prelude.{Ok}
 use Rattle.std.proofs.lemmas.List.{length-take}
 use Rattle.std.proofs.lemmas.Result.{err_from_is_err_and}
 use Rattle.kms_host.proofs.Moments.{tells_weaker}
 use Rattle.kms_host.specs.Disk.{reads}
 use Rattle.kms_host.specs.History.{HasFirst}
-use Rattle.kms_journal.specs.Ahead.{IsAhead, Fills}
+use Rattle.kms_journal.specs.Ahead.{IsAhead}
 use Rattle.kms_journal.proofs.AheadLaws.{ahead_more, enough_more}
 use Rattle.kms_journal.proofs.BufferLaws.{filled}
 use Rattle.kms_journal.proofs.ReadingLaws.{one_read}
