@@ -1,5 +1,5 @@
 -- A store that files of bytes stand for is whole or has one first damage, and what is whole opens.
-use Rattle.std.proofs.Common.{◌≡◌, ◌⊎◌, inl, inr, ℕ, zero, suc, ◌+◌, ◌<◌, ◌≤◌, Bool, true, false, List, [], ◌∷◌, length, take, drop, nat_lt, Option, Some, None, Result, Ok, Err, cond, refl, sym, ap, subst, ◌∙◌, arith}
+use Rattle.std.proofs.Common.{◌≡◌, ◌⊎◌, inl, inr, ℕ, zero, suc, ◌+◌, Bool, true, false, List, [], ◌∷◌, length, take, drop, nat_lt, Option, Some, None, Result, Ok, Err, cond, refl, sym, subst, ◌∙◌}
 use Rattle.std.specs.Prelude.{◌&&◌}
 use Rattle.kms_host.specs.Disk.{files}
 use Rattle.kms_host.specs.History.{History}
@@ -15,7 +15,7 @@ use Rattle.kms_journal.specs.Answers.{chain_of}
 use Rattle.kms_journal.specs.Standing.{Standing, Records, is_set, record_len, record_in, is_record_whole, with_item, stopped, records_from, is_based, headed, standing_from, standing, standing_of, newer}
 use Rattle.kms_journal.specs.Header.{is_header, snapshot_len}
 use Rattle.kms_core.specs.Loading.{is_empty_snapshot}
-use Rattle.kms_core.specs.Stands.{Stands, Applies, LeadTo, KeptOf, IsBroken, BreakAt, IsBytes, IsDamagedAt, IsWholeOrDamaged, kept_as, kept_first}
+use Rattle.kms_core.specs.Stands.{Stands, Applies, LeadTo, IsBroken, BreakAt, IsBytes, IsDamagedAt, IsWholeOrDamaged, kept_as, kept_first}
 use Rattle.kms_core.specs.Starting.{Starts, OpensTo}
 use Rattle.kms_core.specs.Steps.{Held}
 use Rattle.kms_core.specs.declared.start_fault.StartFault.{StartFault}

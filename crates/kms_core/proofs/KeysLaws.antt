@@ -8,7 +8,7 @@ use Rattle.kms_record.specs.SecretPut.{row_of}
 use Rattle.kms_record.specs.SecretsOnly.{with_secret, after_secret_change, after_secret_step, after_secret_record}
 use Rattle.kms_record.proofs.Codec.{passed}
 use Rattle.kms_journal.specs.Standing.{Standing}
-use Rattle.kms_core.specs.Stands.{Applies, LeadTo, KeptOf, kept_as}
+use Rattle.kms_core.specs.Stands.{LeadTo, KeptOf, kept_as}
 
 -- there was something between
 record Between (f : Kept → Option Kept) (o : Option Kept) (after : Kept) : Type 0 where

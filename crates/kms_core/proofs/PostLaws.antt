@@ -1,5 +1,5 @@
 -- The step of a new secret leads to the state with it.
-use Rattle.std.proofs.Common.{◌≡◌, ℕ, true, List, [], Some, None, Ok, refl, sym, ap, ◌∙◌}
+use Rattle.std.proofs.Common.{◌≡◌, ℕ, true, List, [], None, Ok, refl, sym, ap, ◌∙◌}
 use Rattle.kms_world.specs.Effect.{SecretPut, after_effect, after_effects}
 use Rattle.kms_world.specs.State.{State}
 use Rattle.kms_world.specs.declared.body.SecretBody.{SecretBody}

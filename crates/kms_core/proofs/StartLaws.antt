@@ -17,7 +17,7 @@ use Rattle.kms_journal.specs.declared.fault.JournalFault.TheVariants as journal
 use Rattle.kms_journal.specs.declared.fault.Place.{Place}
 use Rattle.kms_journal.specs.declared.fault.Place.TheVariants.{Body}
 use Rattle.kms_journal.proofs.ReadingLaws.{same_reads, same_files, quiet_after, attached_after}
-use Rattle.kms_core.specs.Stands.{LeadTo, BreakAt, IsDamagedAt, KeptOf, kept_as}
+use Rattle.kms_core.specs.Stands.{LeadTo, BreakAt, IsDamagedAt, kept_as}
 use Rattle.kms_core.proofs.KeysLaws.{only_state}
 use Rattle.kms_core.specs.Loading.{IsBrokenAt, IsFirstDamage, Loads, Refuses}
 use Rattle.kms_core.specs.Starting.{IsRefusal, OpensJournal, Starts}

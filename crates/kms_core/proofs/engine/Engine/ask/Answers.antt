@@ -6,7 +6,7 @@ use Rattle.kms_core.specs.declared.step.Step.{Step}
 use Rattle.kms_world.specs.Effect.{after_effects}
 use Rattle.kms_world.specs.declared.refusal.Refusal.{Refusal}
 use Rattle.kms_world.specs.declared.refusal.Refusal.TheVariants.{NoRoute}
-use Rattle.kms_model.specs.Ask.{asked, answer_to, state_after, stores}
+use Rattle.kms_model.specs.Ask.{answer_to, state_after, stores}
 use Rattle.kms_model.specs.Done.{Done, answer_by, effects_by, has_some}
 use Rattle.kms_core.proofs.RouteLaws.{unserved}
 use Rattle.kms_core.proofs.engine.Engine.ask.Goals as goal

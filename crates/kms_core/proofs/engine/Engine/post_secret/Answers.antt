@@ -1,4 +1,4 @@
-use Rattle.std.proofs.Common.{rules, ◌≡◌, true, [], Bool, sym, ap, ◌∙◌}
+use Rattle.std.proofs.Common.{rules, ◌≡◌, true, []}
 use Rattle.kms_model.specs.Secrets.{has_id, is_short_name, next_id}
 use Rattle.kms_core.proofs.PostLaws.{post_leads}
 use Rattle.kms_core.proofs.engine.Engine.post_secret.Goals as goal
