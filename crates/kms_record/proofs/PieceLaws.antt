@@ -36,7 +36,7 @@ more_copied bytes before now part at more count k c is le fits room k_is =
     let rest : drop at now ≡ drop at before = rw c.copied (drop_at (take at bytes) (drop at before) at front) in
     let tail : drop k (drop at now) ≡ drop (at + more) before = ap (drop k) rest ∙ drop-drop k at before ∙ ap (λ (n : ℕ). drop (at + n) before) k_is in
     let parts : put_mid at k now part ≡ take at bytes ++ (take more (drop at bytes) ++ drop (at + more) before) =
-        ap (λ (l : List ℕ). l ++ (part ++ drop k (drop at now))) first ∙ ap (λ (l : List ℕ). take at bytes ++ (l ++ drop k (drop at now))) is ∙ ap (λ (l : List ℕ). take at bytes ++ (take more (drop at bytes) ++ l)) tail in
+    ap (λ (l : List ℕ). l ++ (part ++ drop k (drop at now))) first ∙ ap (λ (l : List ℕ). take at bytes ++ (l ++ drop k (drop at now))) is ∙ ap (λ (l : List ℕ). take at bytes ++ (take more (drop at bytes) ++ l)) tail in
     record {
       copied = parts ∙ sym (append_assoc (take at bytes) (take more (drop at bytes)) (drop (at + more) before)) ∙ ap (λ (l : List ℕ). l ++ drop (at + more) before) (sym (take-add at more bytes));
       within = le;

@@ -17,14 +17,14 @@ use crate::acl::write_users;
 use crate::metadata::write_pairs;
 use crate::order::write_state;
 use crate::quota::write_limits;
-use crate::spell;
 use crate::window::Window;
-use crate::{OrderPutState, QuotaLimit, QuotaLimits, WrappedKey};
+use crate::{OrderPutState, QuotaLimit, QuotaLimits, WrappedKey, spell};
 use kms_world::{
     AclRow, ConsumerRow, ContainerRow, Id, OrderRow, OrderState, Payload, QuotaRow, SecretRow, Text,
 };
 
 /// A change of a snapshot, by the row that it puts. A payload's bytes are its token, and its secret's row has one.
+#[derive(Clone, Copy)]
 pub enum BaseChange<'a> {
     Key(&'a WrappedKey),
     Secret(&'a SecretRow),
@@ -38,8 +38,8 @@ pub enum BaseChange<'a> {
     Quota(&'a QuotaRow),
 }
 
-// The count of an id, in its last 62 bits.
-fn count_of(id: Id) -> u64
+/// The count of an id, in its last 62 bits.
+pub(crate) fn count_of(id: Id) -> u64
     ensures { result ≡ count_of id }
 {
     (id.0 % 0x4000_0000_0000_0000) as u64

@@ -1,10 +1,15 @@
 // What no clause says: that calls succeed. And the bytes of steps against a writer and a reader in another language:
 // tests/record_vectors.py computes the tables again.
 ghost use Rattle.std.specs.Prelude.{◌<◌};
+ghost use Rattle.kms_record.specs.Base.{IsBaseInRange};
 
+use crate::base::count_of;
 use crate::rows::ROWS;
-use crate::{decode_base, decode_body, encode_step};
-use kms_world::{Bytes, NoMemory};
+use crate::{
+    BaseChange, Change, SecretPut, Step, WrappedKey, base_len, base_piece, decode_base,
+    decode_body, encode_step,
+};
+use kms_world::{Bytes, Name, NoMemory, SecretKind, Text};
 use std::alloc::Global;
 use std::rt::HostRuntime;
 use std::test::Fail;
@@ -152,5 +157,81 @@ fn snapshots_are_read(rt: HostRuntime) -> Result<(), Fail> {
     one.push_all(&ONE_SECRET[6..])?;
     let one = decode_base(alloc, one.as_slice())?.ok_or("no snapshot")?;
     assert_eq!(rt; one.as_slice().len(), 1);
+    Ok(())
+}
+
+// The spelling of a change in a snapshot, in pieces of seven bytes.
+fn in_pieces(alloc: Global, change: &BaseChange<'_>) -> Result<Bytes, NoMemory>
+    requires { IsBaseInRange change.now }
+{
+    let mut out = Bytes::new(alloc);
+    let len = base_len(change);
+    let mut from = 0;
+    for _ in 0..len {
+        if from < len {
+            let mut room = [0; 7];
+            let count = base_piece(change, from, &mut room);
+            out.push_all(&room[..count])?;
+            from += count;
+        }
+    }
+    Ok(out)
+}
+
+// A snapshot of one change.
+fn snapshot_of(alloc: Global, change: &[u8]) -> Result<Bytes, NoMemory> {
+    let mut snapshot = Bytes::of(alloc, &[0, 0, 0, 0, 0, 0, 0, 1])?;
+    snapshot.push_all(change)?;
+    Ok(snapshot)
+}
+
+#[test]
+fn rows_go_out_in_pieces(rt: HostRuntime) -> Result<(), Fail> {
+    let alloc = rt.alloc();
+    let key = WrappedKey {
+        project: Name::read("p1".as_bytes()).ok_or("a project")?,
+        number: 1,
+        wrapped: [7; 140],
+    };
+    if key.is_in_range() {
+        let bytes = in_pieces(alloc, &BaseChange::Key(&key))?;
+        assert_eq!(rt; bytes.as_slice().len(), 149);
+        assert!(rt;
+            bytes
+                .as_slice()
+                .starts_with(&[1, 0, 2, b'p', b'1', 0, 0, 0, 1])
+        );
+        let snapshot = snapshot_of(alloc, bytes.as_slice())?;
+        assert!(rt; decode_base(alloc, snapshot.as_slice())?.is_some());
+    }
+    let put = SecretPut {
+        id: 5,
+        project: Name::read("p1".as_bytes()).ok_or("a project")?,
+        creator: Name::read("u1".as_bytes()).ok_or("a creator")?,
+        created: 1,
+        updated: 2,
+        name: None,
+        algorithm: Some(Text::of(alloc, "aes")?),
+        bit_length: Some(256),
+        mode: None,
+        kind: SecretKind::Public,
+        expiration: None,
+    };
+    let row = put.into_row(alloc, 77);
+    let again = SecretPut::of(&row, count_of(row.id))?;
+    if again.is_in_range() {
+        let bytes = in_pieces(alloc, &BaseChange::Secret(&row))?;
+        let mut step = Step::new(alloc);
+        step.push(Change::SecretPut(again))?;
+        let mut spelled = Bytes::new(alloc);
+        if step.is_in_range() {
+            encode_step(&step, &mut spelled)?;
+        }
+        assert!(rt; spelled.as_slice().ends_with(bytes.as_slice()));
+        assert_eq!(rt;
+            spelled.as_slice().len(),
+            bytes.as_slice().len().saturating_add(2)
+        );
+    }
     Ok(())
 }

@@ -14,13 +14,13 @@ pub write_member-requires : goal.write_member-requires
 write_member-requires c =
     let within : c.loop-member.member-index < length (map member_of c.args.members.now) = omega (arith, length_members c.args.members.now, c.loop-member-test.true) in
     let is : get_or (map member_of c.args.members.now) c.loop-member.member-index (member_of c.member-item.result) ≡ member_of c.member-item.result =
-        get_or-map member_of c.args.members.now c.loop-member.member-index c.member-item.result (member_of c.member-item.result) c.loop-member-test.true ∙ ap member_of (sym c.member-item.is) in
+    get_or-map member_of c.args.members.now c.loop-member.member-index c.member-item.result (member_of c.member-item.result) c.loop-member-test.true ∙ ap member_of (sym c.member-item.is) in
     rw is at (all_at IsMemberInRange (map member_of c.args.members.now) c.loop-member.member-index (member_of c.member-item.result) c.requires within)
 
 pub loop-member-preserved : goal.loop-member-preserved
 loop-member-preserved c =
     let within : c.loop-member.member-index < length (map member_of c.args.members.now) = omega (arith, length_members c.args.members.now, c.loop-member-test.true) in
     let is : get_or (map member_of c.args.members.now) c.loop-member.member-index (member_of c.member-item.result) ≡ member_of c.member-item.result =
-        get_or-map member_of c.args.members.now c.loop-member.member-index c.member-item.result (member_of c.member-item.result) c.loop-member-test.true ∙ ap member_of (sym c.member-item.is) in
+    get_or-map member_of c.args.members.now c.loop-member.member-index c.member-item.result (member_of c.member-item.result) c.loop-member-test.true ∙ ap member_of (sym c.member-item.is) in
     one_more_written member_bytes (λ m. Unit {0}) c.args.out.now c.loop-member.out c.write_member.new.out (map member_of c.args.members.now) c.loop-member.member-index (member_of c.member-item.result)
     within (sym is) c.loop-member.invariant c.write_member.ensures tt

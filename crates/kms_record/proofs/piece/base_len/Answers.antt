@@ -10,4 +10,4 @@ pub returns : goal.returns
 returns c =
     ap (λ (n : ℕ). 18446744073709551615 - n) c.unseen.ensures
     ∙ passed_count c.after-window.result c.write.new.out (base_bytes c.args.change.now) 18446744073709551615 c.write.ensures (ap (λ (s : Shown). s.unseen) c.after-window.ensures)
-      (omega (arith, base_is_short c.args.change.now c.requires))
+    (omega (arith, base_is_short c.args.change.now c.requires))
