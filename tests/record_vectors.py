@@ -14,7 +14,7 @@ SOURCES = Path(__file__).resolve().parent.parent / "crates" / "kms_record" / "sr
 END = 253402300800
 NAME = re.compile(rb"[A-Za-z0-9._-]{1,64}")
 MUTATIONS = 2000
-PARTS = 16
+PARTS = 14
 
 
 def u8(n):

@@ -15,7 +15,7 @@ use std::rt::HostRuntime;
 use std::test::Fail;
 
 // Which of 2,000 changed rows are records.
-const MUTATED: u64 = 267333302;
+const MUTATED: u64 = 543945258;
 
 static ACCEPTED: [u16; 48] = [
     1, 1, 1, 1, 1, 1, 1, 64, 256, 256, 256, 256, 256, 256, 256, 1, 1, 65, 65, 1, 1, 65, 65, 1, 1,
@@ -69,18 +69,26 @@ fn spelled_again(alloc: Global, record: &[u8]) -> Result<Option<Bytes>, NoMemory
     Ok(Some(out))
 }
 
+// Each row is a record where it is said to be one, and is spelled as it was.
+fn are_as_said(alloc: Global, rows: &[&str]) -> Result<bool, Fail> {
+    for row in rows {
+        let bytes = bytes_of(alloc, row)?;
+        let is_as_said = match spelled_again(alloc, &bytes)? {
+            Some(again) => row.starts_with('+') && again.as_slice() == bytes.as_slice(),
+            None => row.starts_with('-'),
+        };
+        if !is_as_said {
+            return Ok(false);
+        }
+    }
+    Ok(true)
+}
+
 #[test]
 fn rows_are_read_and_spelled(rt: HostRuntime) -> Result<(), Fail> {
     let alloc = rt.alloc();
     for rows in parts() {
-        for row in rows {
-            let bytes = bytes_of(alloc, row)?;
-            let again = spelled_again(alloc, &bytes)?;
-            assert_eq!(rt; again.is_some(), row.starts_with('+'), "{row}");
-            if let Some(again) = again {
-                assert!(rt; again.as_slice() == bytes.as_slice(), "{row}");
-            }
-        }
+        assert!(rt; are_as_said(alloc, rows)?);
     }
     Ok(())
 }
@@ -93,7 +101,7 @@ fn changed_rows_are_told_apart(rt: HostRuntime) -> Result<(), Fail> {
     let mut folded = 0u64;
     for _ in 0..2000u32 {
         state = (state % 0x8000_0000 * 1_103_515_245 + 12_345) % 0x8000_0000;
-        let rows = parts[(state / 7 % 16) as usize];
+        let rows = parts[(state / 7 % 14) as usize];
         if rows.is_empty() {
             continue;
         }
