@@ -8,7 +8,7 @@ use Rattle.kms_world.specs.declared.id.Id.{Id}
 use Rattle.kms_world.specs.declared.secret.SecretKind.TheVariants.{Opaque}
 use Rattle.kms_world.specs.declared.secret.SecretRow.{SecretRow}
 use Rattle.kms_model.specs.Done.{effects_by}
-use Rattle.kms_model.specs.Secrets.{has_id, next_id, is_short_name, new_secret, posted}
+use Rattle.kms_model.specs.Secrets.{has_id, next_id, is_short_name, new_secret, other_field, posted}
 
 -- a new secret with this id and these metadata
 abbrev pub row_of : Caller → SecretBody → ℕ → Id → List (List ℕ × List ℕ) → SecretRow
@@ -28,13 +28,13 @@ row_of caller body t id metadata = record {
   metadata = metadata;
 }
 
-effects_of : (s : State) (caller : Caller) (body : SecretBody) (t : ℕ) → is_short_name body.name ≡ true → has_id s ≡ true
+effects_of : (s : State) (caller : Caller) (body : SecretBody) (t : ℕ) → is_short_name body.name ≡ true → other_field body ≡ None → has_id s ≡ true
     → after_effects (effects_by (posted s caller (Ok body) t)) s ≡ after_effect (SecretPut (new_secret s caller body t)) s
-effects_of s caller body t short left = rw (short, left) refl
+effects_of s caller body t short alone left = rw (short, alone, left) refl
 
-pub post_leads : (s : State) (caller : Caller) (body : SecretBody) (t : ℕ) (id : Id) (metadata : List (List ℕ × List ℕ)) → is_short_name body.name ≡ true → has_id s ≡ true
+pub post_leads : (s : State) (caller : Caller) (body : SecretBody) (t : ℕ) (id : Id) (metadata : List (List ℕ × List ℕ)) → is_short_name body.name ≡ true → other_field body ≡ None → has_id s ≡ true
     → id ≡ next_id s → metadata ≡ [] → after_effect (SecretPut (row_of caller body t id metadata)) s ≡ after_effects (effects_by (posted s caller (Ok body) t)) s
-post_leads s caller body t id metadata short left next none =
+post_leads s caller body t id metadata short alone left next none =
     ap (λ (i : Id). after_effect (SecretPut (row_of caller body t i metadata)) s) next
     ∙ ap (λ (m : List (List ℕ × List ℕ)). after_effect (SecretPut (row_of caller body t (next_id s) m)) s) none
-    ∙ sym (effects_of s caller body t short left)
+    ∙ sym (effects_of s caller body t short alone left)

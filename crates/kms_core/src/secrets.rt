@@ -1,7 +1,7 @@
 // Operations on secrets.
 ghost use Rattle.std.specs.Prelude.{◌≡◌, ◌<◌, IfOk, Ok, is_some, IfSome, None, option_copied, find};
 ghost use Rattle.kms_model.specs.Done.{answer_by, effects_by, has_some};
-ghost use Rattle.kms_model.specs.Secrets.{is_secret, is_live, is_short_name, posted, shown};
+ghost use Rattle.kms_model.specs.Secrets.{is_secret, is_live, is_short_name, other_field, posted, shown};
 ghost use Rattle.kms_world.specs.Effect.{after_effects};
 ghost use Rattle.kms_core.specs.Steps.{Prepares, IsSpelledBehind};
 ghost use Rattle.kms_core.specs.Waiting.{count_of};
@@ -21,6 +21,31 @@ fn is_short_name(name: &Option<Text>) -> bool
     match name {
         None => true,
         Some(name) => name.as_str().len() <= 255,
+    }
+}
+
+// The first field of the body, besides the name, that is there.
+fn other_field(body: &SecretBody) -> Option<Field>
+    ensures { result ≡ other_field body.now }
+{
+    if body.algorithm.is_some() {
+        Some(Field::Algorithm)
+    } else if body.bit_length.is_some() {
+        Some(Field::BitLength)
+    } else if body.mode.is_some() {
+        Some(Field::Mode)
+    } else if body.secret_type.is_some() {
+        Some(Field::SecretType)
+    } else if body.expiration.is_some() {
+        Some(Field::Expiration)
+    } else if body.payload.is_some() {
+        Some(Field::Payload)
+    } else if body.payload_content_type.is_some() {
+        Some(Field::PayloadContentType)
+    } else if body.payload_content_encoding.is_some() {
+        Some(Field::PayloadContentEncoding)
+    } else {
+        None
     }
 }
 
@@ -66,6 +91,9 @@ impl Engine {
     {
         if !is_short_name(&body.name) {
             return Ok(refused(Refusal::BadBody(Field::Name)));
+        }
+        if let Some(field) = other_field(&body) {
+            return Ok(refused(Refusal::BadBody(field)));
         }
         if self.ids >= 1 << 62 {
             return Ok(refused(Refusal::IdsSpent));

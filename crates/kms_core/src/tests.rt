@@ -5,7 +5,7 @@ ghost use Rattle.kms_host.specs.History.{WhereTold};
 ghost use Rattle.kms_host.specs.Store.{IsAttached};
 ghost use Rattle.kms_journal.specs.Position.{IsPlaced};
 ghost use Rattle.kms_journal.specs.Standing.{Standing};
-ghost use Rattle.kms_core.specs.Steps.{IsIdle};
+ghost use Rattle.kms_core.specs.Steps.{IsIdle, IsWorking};
 
 mod bytes;
 
@@ -129,6 +129,7 @@ fn post(alloc: Global) -> Option<Op> {
 fn starts<H: Host>(alloc: Global, host: &mut H) -> Result<Engine, StartFault>
     requires { WhereTold (H.history host.old) IsAttached }
     ensures idle { IfOk result IsIdle }
+    ensures working { IfOk result IsWorking }
     ensures placed { IfOk result (λ e. WhereTold (H.history host.new) (λ h. (s : Standing) × IsPlaced e.store.journal h s)) }
 {
     Engine::start(alloc, host)
@@ -137,8 +138,10 @@ fn starts<H: Host>(alloc: Global, host: &mut H) -> Result<Engine, StartFault>
 // The answer to an operation, whose step is accepted.
 fn answers<H: Host>(engine: &mut Engine, host: &mut H, op: Op) -> Option<Answer>
     requires idle { IsIdle engine.old }
+    requires working { IsWorking engine.old }
     requires placed { WhereTold (H.history host.old) (λ h. (s : Standing) × IsPlaced engine.old.store.journal h s) }
     ensures placed { WhereTold (H.history host.new) (λ h. (s : Standing) × IsPlaced engine.new.store.journal h s) }
+    ensures working { IsWorking engine.new }
 {
     let caller = caller()?;
     match engine.ask(host, &caller, op, MOMENT) {
@@ -154,6 +157,7 @@ fn answers<H: Host>(engine: &mut Engine, host: &mut H, op: Op) -> Option<Answer>
 
 // Settles what was accepted.
 fn settles<H: Host>(engine: &mut Engine, host: &mut H) -> Result<(), StoreFault>
+    requires working { IsWorking engine.old }
     requires placed { WhereTold (H.history host.old) (λ h. (s : Standing) × IsPlaced engine.old.store.journal h s) }
 {
     engine.settle(host)

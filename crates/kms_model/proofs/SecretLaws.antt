@@ -1,5 +1,5 @@
 -- What follows for a secret that is posted, and for one that is shown.
-use Rattle.std.proofs.Common.{◌≡◌, ℕ, ◌^◌, ◌<◌, ◌≤◌, ◌+◌, ◌==◌, ◌&&◌, Bool, true, false, List, [], ◌∷◌, ◌++◌, length, Option, Some, Ok, cond, refl, ap, subst, arith}
+use Rattle.std.proofs.Common.{◌≡◌, ℕ, ◌^◌, ◌<◌, ◌≤◌, ◌+◌, ◌==◌, ◌&&◌, Bool, true, false, List, [], ◌∷◌, ◌++◌, length, Option, Some, Ok, cond, refl, ap, subst, arith, None}
 use Rattle.std.specs.Prelude.{find}
 use Rattle.std.specs.Str.{bytes_eq}
 use Rattle.std.proofs.lemmas.Bool.{and_parts, ltb-true, leb-true, eqb-true}
@@ -10,10 +10,11 @@ use Rattle.kms_world.specs.State.{State}
 use Rattle.kms_world.specs.declared.body.SecretBody.{SecretBody}
 use Rattle.kms_world.specs.declared.caller.Caller.{Caller}
 use Rattle.kms_world.specs.declared.id.Id.{Id}
+use Rattle.kms_world.specs.declared.refusal.Field.{Field}
 use Rattle.kms_world.specs.declared.refusal.Refusal.{Refusal}
 use Rattle.kms_world.specs.declared.secret.SecretRow.{SecretRow}
 use Rattle.kms_model.specs.Done.{Done, ◌>>=◌, only_if}
-use Rattle.kms_model.specs.Secrets.{has_id, is_live, is_secret, is_short_name, new_secret, next_id, posted, secret_at}
+use Rattle.kms_model.specs.Secrets.{has_id, is_live, is_secret, is_short_name, new_secret, next_id, no_field, other_field, posted, secret_at}
 
 some_same : {X : Type 0} (x y : X) → Some x ≡ Some y → x ≡ y
 some_same x y is = cc
@@ -46,16 +47,18 @@ shown_is_own s caller id t row is =
 pub not_expired : (t : ℕ) (expiration : Option ℕ) (at : ℕ) → is_live t expiration ≡ true → expiration ≡ Some at → t < at
 not_expired t expiration at live is = ltb-true t at (subst (λ (e : Option ℕ). is_live t e ≡ true) is live)
 
--- where both tests pass this is done
-record Passes (a b : Bool) (d done : Done) : Type 0 where
+-- where all tests pass this is done
+record Passes (a b : Bool) (o : Option Field) (d done : Done) : Type 0 where
   first : a ≡ true
+  none : o ≡ None
   second : b ≡ true
   same : d ≡ done
 
-both_pass : (a b : Bool) (r q : Refusal) (d done : Done) → (only_if a r >>= λ x. only_if b q >>= λ y. Ok d) ≡ Ok done → Passes a b d done
-both_pass true true r q d done is = record { first = refl; second = refl; same = cc }
-both_pass true false r q d done is = absurd cc
-both_pass false b r q d done is = absurd cc
+all_pass : (a b : Bool) (o : Option Field) (r q : Refusal) (d done : Done) → (only_if a r >>= λ x. no_field o >>= λ y. only_if b q >>= λ z. Ok d) ≡ Ok done → Passes a b o d done
+all_pass true true None r q d done is = record { first = refl; none = refl; second = refl; same = cc }
+all_pass true false None r q d done is = absurd cc
+all_pass true b (Some field) r q d done is = absurd cc
+all_pass false b o r q d done is = absurd cc
 
 eqb_same : (n : ℕ) → (n == n) ≡ true
 eqb_same n = grind arith
@@ -65,15 +68,17 @@ next_given s = rw (eqb_same (next_id s).0) refl
 
 pub record IsPosted (s : State) (caller : Caller) (body : SecretBody) (t : ℕ) (done : Done) : Type 0 where
   pub short : is_short_name body.name ≡ true
+  pub alone : other_field body ≡ None
   pub left : s.ids < 2 ^ 62
   pub ids : (after_effects done.effects s).ids ≡ s.ids + 1
   pub last : (after_effects done.effects s).secrets ≡ s.secrets ++ new_secret s caller body t ∷ []
 
 pub is_posted : (s : State) (caller : Caller) (body : SecretBody) (t : ℕ) (done : Done) → posted s caller (Ok body) t ≡ Ok done → IsPosted s caller body t done
 is_posted s caller body t done is =
-    let p = both_pass (is_short_name body.name) (has_id s) _ _ _ done is in
+    let p = all_pass (is_short_name body.name) (has_id s) (other_field body) _ _ _ done is in
     record {
       short = p.first;
+      alone = p.none;
       left = ltb-true s.ids (2 ^ 62) p.second;
       ids = subst (λ (d : Done). (after_effects d.effects s).ids ≡ s.ids + 1) p.same (next_given s);
       last = subst (λ (d : Done). (after_effects d.effects s).secrets ≡ s.secrets ++ new_secret s caller body t ∷ []) p.same refl;

@@ -1,5 +1,5 @@
 -- The operations on secrets.
-use Rattle.std.specs.Prelude.{ℕ, ◌^◌, ◌&&◌, Bool, true, List, [], ◌∷◌, length, Option, Some, None, Result, Ok, nat_lt, nat_le, find, option_and_then}
+use Rattle.std.specs.Prelude.{ℕ, ◌^◌, ◌&&◌, Bool, true, List, [], ◌∷◌, length, Option, Some, None, Result, Ok, nat_lt, nat_le, find, option_and_then, if◌then◌else◌, is_some, Err}
 use Rattle.std.specs.Str.{bytes_eq}
 use Rattle.kms_world.specs.Effect.{SecretPut}
 use Rattle.kms_world.specs.Id.{id_at, is_id}
@@ -10,7 +10,8 @@ use Rattle.kms_world.specs.declared.caller.Caller.{Caller}
 use Rattle.kms_world.specs.declared.body.SecretBody.{SecretBody}
 use Rattle.kms_world.specs.declared.secret.SecretRow.{SecretRow}
 use Rattle.kms_world.specs.declared.secret.SecretKind.TheVariants.{Opaque}
-use Rattle.kms_world.specs.declared.refusal.Field.TheVariants.{Name}
+use Rattle.kms_world.specs.declared.refusal.Field.{Field}
+use Rattle.kms_world.specs.declared.refusal.Field.TheVariants.{Name, Algorithm, BitLength, Mode, SecretType, Expiration, Payload, PayloadContentType, PayloadContentEncoding}
 use Rattle.kms_world.specs.declared.refusal.Refusal.{Refusal}
 use Rattle.kms_world.specs.declared.refusal.Refusal.TheVariants.{BadBody, IdsSpent}
 use Rattle.kms_world.specs.declared.answer.Answer.TheVariants.{Link, Secret}
@@ -28,6 +29,22 @@ next_id s = id_at s.tag s.ids
 abbrev pub is_short_name : Option (List ℕ) → Bool
 is_short_name None = true
 is_short_name (Some name) = nat_le (length name) 255
+
+-- the first field of the body, besides the name, that is there: none of them is taken yet
+abbrev pub other_field : SecretBody → Option Field
+other_field body =
+    if is_some body.algorithm then Some Algorithm else
+    if is_some body.bit_length then Some BitLength else
+    if is_some body.mode then Some Mode else
+    if is_some body.secret_type then Some SecretType else
+    if is_some body.expiration then Some Expiration else
+    if is_some body.payload then Some Payload else
+    if is_some body.payload_content_type then Some PayloadContentType else
+    if is_some body.payload_content_encoding then Some PayloadContentEncoding else None
+
+abbrev pub no_field : Option Field → Result (Unit {0}) Refusal
+no_field None = Ok tt
+no_field (Some field) = Err (BadBody field)
 
 -- a new secret of the caller, without a payload
 abbrev pub new_secret : State → Caller → SecretBody → ℕ → SecretRow
@@ -65,10 +82,11 @@ abbrev pub posted : State → Caller → Result SecretBody Refusal → ℕ → R
 posted s caller body t = do
   new ← body
   short ← only_if (is_short_name new.name) (BadBody Name)
+  alone ← no_field (other_field new)
   left ← only_if (has_id s) IdsSpent
   Ok (record { answer = Link 201 SecretLink (next_id s); effects = SecretPut (new_secret s caller new t) ∷ [] })
 
--- GET of a secret's attributes
+-- GET of a secret's attributes, whatever types it accepts
 abbrev pub shown : State → Caller → Option Id → ℕ → Result Done Refusal
 shown s caller id t = do
   row ← there (secret_at s caller id t)

@@ -1,8 +1,8 @@
 //! Laws of the plain key manager, as functions that do nothing.
-ghost use Rattle.std.specs.Prelude.{◌≡◌, ◌<◌, ◌≤◌, ◌+◌, ◌++◌, ◌∷◌, [], ℕ, ◌^◌, List, Some, Ok, Err, false, length};
+ghost use Rattle.std.specs.Prelude.{◌≡◌, ◌<◌, ◌≤◌, ◌+◌, ◌++◌, ◌∷◌, [], ℕ, ◌^◌, List, Some, None, Ok, Err, false, length};
 ghost use Rattle.kms_model.specs.Ask.{answer_to, asked, state_after, stores};
 ghost use Rattle.kms_model.specs.Done.{Done};
-ghost use Rattle.kms_model.specs.Secrets.{new_secret, posted, secret_at};
+ghost use Rattle.kms_model.specs.Secrets.{new_secret, other_field, posted, secret_at};
 ghost use Rattle.kms_world.specs.Effect.{after_effects};
 ghost use Rattle.kms_world.specs.State.{State};
 ghost use Rattle.kms_world.specs.declared.answer.Answer.TheVariants as answers;
@@ -37,11 +37,12 @@ pub fn a_secret_is_shown_to_its_project_alone()
     ensures live { (s : State) (caller : Caller) (id : Id) (t : ℕ) (row : SecretRow) (expiration : ℕ) → secret_at s caller (Some id) t ≡ Some row → row.expiration ≡ Some expiration → t < expiration }
 {}
 
-/// A secret that is posted goes last, under an id that was left, which is given with it; its name has at most 255 bytes.
+/// A secret that is posted goes last, under an id that was left, which is given with it; its name has at most 255 bytes, and no other field was there.
 pub fn a_posted_secret_takes_the_next_id()
     ensures last { (s : State) (caller : Caller) (body : SecretBody) (t : ℕ) (done : Done) → posted s caller (Ok body) t ≡ Ok done
         → (after_effects done.effects s).secrets ≡ s.secrets ++ new_secret s caller body t ∷ [] }
     ensures ids { (s : State) (caller : Caller) (body : SecretBody) (t : ℕ) (done : Done) → posted s caller (Ok body) t ≡ Ok done → (after_effects done.effects s).ids ≡ s.ids + 1 }
     ensures left { (s : State) (caller : Caller) (body : SecretBody) (t : ℕ) (done : Done) → posted s caller (Ok body) t ≡ Ok done → s.ids < 2 ^ 62 }
+    ensures alone { (s : State) (caller : Caller) (body : SecretBody) (t : ℕ) (done : Done) → posted s caller (Ok body) t ≡ Ok done → other_field body ≡ None }
     ensures short { (s : State) (caller : Caller) (body : SecretBody) (t : ℕ) (done : Done) (name : List ℕ) → posted s caller (Ok body) t ≡ Ok done → body.name ≡ Some name → length name ≤ 255 }
 {}

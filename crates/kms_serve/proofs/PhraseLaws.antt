@@ -22,7 +22,7 @@ after (Err refusal) rest h = tt
 
 post : (s : State) (caller : Caller) (body : Result SecretBody Refusal) (t : ℕ) → HasPhrase (answer_by (posted s caller body t))
 post s caller body t =
-    after body _ (λ new. after (only_if (is_short_name new.name) _) _ (λ short. after (only_if (has_id s) _) _ (λ left. refl)))
+    after body _ (λ new. after (only_if (is_short_name new.name) _) _ (λ short. after (no_field (other_field new)) _ (λ alone. after (only_if (has_id s) _) _ (λ left. refl))))
 
 show : (s : State) (caller : Caller) (id : Option Id) (t : ℕ) → HasPhrase (answer_by (shown s caller id t))
 show s caller id t = after (there (secret_at s caller id t)) _ (λ row. tt)

@@ -1,4 +1,5 @@
 // What is done to a store.
+ghost use Rattle.std.specs.Prelude.{◌≡◌, false};
 ghost use Rattle.kms_journal.specs.Commit.{IsFramed};
 
 use crate::answer::Answer;
@@ -43,7 +44,8 @@ pub fn make(rt: HostRuntime, name: &str) -> Answer {
 }
 
 fn commit_each(host: &mut PipeHost, journal: &mut Journal, count: u64, framed: &[u8]) -> Answer
-    requires { IsFramed framed.now }
+    requires framed { IsFramed framed.now }
+    requires working { journal.old.failed ≡ false }
 {
     for _ in 0..count {
         if journal.commit(host, framed).is_err() {

@@ -12,3 +12,6 @@ returns-clause-left c = λ s caller body t done is. (is_posted s caller body t d
 
 pub returns-clause-short : goal.returns-clause-short
 returns-clause-short c = λ s caller body t done name is given. name_fits body.name name (is_posted s caller body t done is).short given
+
+pub returns-clause-alone : goal.returns-clause-alone
+returns-clause-alone c = λ s caller body t done is. (is_posted s caller body t done is).alone

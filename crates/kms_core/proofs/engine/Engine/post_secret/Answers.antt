@@ -1,5 +1,5 @@
 use Rattle.std.proofs.Common.{rules, ◌≡◌, true, []}
-use Rattle.kms_model.specs.Secrets.{has_id, is_short_name, next_id}
+use Rattle.kms_model.specs.Secrets.{has_id, is_short_name, next_id, other_field}
 use Rattle.kms_core.proofs.PostLaws.{post_leads}
 use Rattle.kms_core.proofs.engine.Engine.post_secret.Goals as goal
 
@@ -7,11 +7,12 @@ pub returns-clause-step : goal.returns-clause-step
 returns-clause-step c =
     let s = c.args.self.now.state in
     let short : is_short_name c.args.body.name ≡ true = search rules in
+    let alone : other_field c.args.body ≡ None = search rules in
     let left : has_id s ≡ true = search rules in
     let next : c.id_of-id.result ≡ next_id s = search rules in
     let none : c.new.result ≡ [] = c.new.ensures in
     record {
-      leads = post_leads s c.args.caller.now c.args.body c.args.moment c.id_of-id.result c.new.result short left next none;
+      leads = post_leads s c.args.caller.now c.args.body c.args.moment c.id_of-id.result c.new.result short alone left next none;
       room = search rules;
       ids = search rules;
       id = next;
