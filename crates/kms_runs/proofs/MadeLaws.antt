@@ -1,5 +1,5 @@
 -- The store that `init --store s` made is the one that the next run may serve.
-use Rattle.std.proofs.Common.{◌≡◌, ℕ, List, [], ◌∷◌, Bool, true, false, Option, Some, None, cond, refl, sym, subst}
+use Rattle.std.proofs.Common.{◌≡◌, ℕ, List, [], ◌∷◌, Bool, true, false, Option, Some, None, cond, refl, subst}
 use Rattle.std.specs.Prelude.{codes}
 use Rattle.kms_host.specs.History.{History, WhereTold}
 use Rattle.kms_host.specs.Line.{IsOpen}
@@ -8,7 +8,7 @@ use Rattle.kms_host.proofs.Moments.{known_both, known_with}
 use Rattle.kms_host.proofs.StoreLaws.{only_attached-none}
 use Rattle.kms_serve.specs.Init.{CanBeServed}
 use Rattle.kms_serve.specs.Theorem.{RunPromise}
-use Rattle.kms_serve.specs.Words.{Pipe, is_pipe, init_of, pipe_of, store_of, named_store}
+use Rattle.kms_serve.specs.Words.{is_pipe, init_of, pipe_of, store_of, named_store}
 use Rattle.kms_serve.specs.declared.status.Status.{Status}
 use Rattle.kms_serve.proofs.NextLaws.{served_next}
 

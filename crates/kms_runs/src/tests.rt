@@ -47,10 +47,10 @@ const WORDS: [&str; 7] = [
 
 const EMPTY: &[u8] = b"";
 
-// A run that serves the store of this file 0.
-fn serving<'a>(file: &'a [u8], line: &'a [u8], piece: usize) -> Row<'a> {
+// A run of these words over a store whose file 0 is this.
+fn over<'a>(words: &'a [&'a str], file: &'a [u8], line: &'a [u8], piece: usize) -> Row<'a> {
     Row {
-        words: &WORDS,
+        words,
         file_0: file,
         file_1: EMPTY,
         line,
@@ -58,6 +58,11 @@ fn serving<'a>(file: &'a [u8], line: &'a [u8], piece: usize) -> Row<'a> {
         fault: None,
         passing: None,
     }
+}
+
+// A run that serves the store of this file 0.
+fn serving<'a>(file: &'a [u8], line: &'a [u8], piece: usize) -> Row<'a> {
+    over(&WORDS, file, line, piece)
 }
 
 fn joined(alloc: Global, parts: &[&[u8]]) -> Result<Vec<u8>, AllocError> {
@@ -139,10 +144,8 @@ fn a_line_fails(rt: HostRuntime) -> Result<(), Fail> {
 }
 
 // Whether these words are not understood, and nothing is sent.
-fn refuses(alloc: Global, words: &[&str]) -> Result<bool, NoMemory> {
-    let mut row = serving(&init::FRESH, POST, 144);
-    row.words = words;
-    let (ended, host) = ran(alloc, row)?;
+fn refuses<'a>(alloc: Global, words: &'a [&'a str]) -> Result<bool, NoMemory> {
+    let (ended, host) = ran(alloc, over(words, &init::FRESH, POST, 144))?;
     Ok(ended == Status::Words && host.sent(0).is_empty())
 }
 

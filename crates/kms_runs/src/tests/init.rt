@@ -1,6 +1,6 @@
 // Making a store over a host in memory: what it leaves of the files, and what it answers.
-use super::{CREATED, EMPTY, GET, POST, SHOWN, joined, sends, serving};
-use crate::row::{Row, made_and_served, ran};
+use super::{CREATED, EMPTY, GET, POST, SHOWN, joined, over, sends, serving};
+use crate::row::{made_and_served, ran};
 use kms_host::{Count, MemoryHost, NoMemory, Pick};
 use kms_serve::Status;
 use std::alloc::Global;
@@ -36,8 +36,7 @@ fn ends(
     status: Status,
     left: &[u8],
 ) -> Result<bool, NoMemory> {
-    let mut row = serving(file, EMPTY, 1);
-    row.words = &WORDS;
+    let mut row = over(&WORDS, file, EMPTY, 1);
     row.fault = fault;
     let (ended, host) = ran(alloc, row)?;
     Ok(ended == status && leaves(&host, EMPTY, left))

@@ -1,4 +1,4 @@
-use Rattle.std.proofs.Common.{◌≡◌, List, ℕ, [], ◌∷◌, subst}
+use Rattle.std.proofs.Common.{List, ℕ, [], ◌∷◌, subst}
 use Rattle.std.specs.Prelude.{codes, string_bytes}
 use Rattle.kms_host.specs.History.{WhereTold}
 use Rattle.kms_host.specs.Line.{IsOpen}
