@@ -97,8 +97,8 @@ impl Engine {
     }
 
     /// Writes the accepted steps that wait to the store, as one record, with at most two syncs. It takes no memory. With
-    /// no step that waits it makes no call on the host. From an Ok on they are on the disk, if nothing was pending on the
-    /// files before. After a fault the store has all of them or none, and the engine settles no more: start another.
+    /// no step that waits it makes no call on the host. From an Ok on they are on the disk, and after a fault the store has
+    /// all of them or none, if nothing was pending on the files before. The engine settles no more then: start another.
     pub fn settle<H: Host>(&mut self, host: &mut H) -> Result<(), StoreFault>
         requires working { IsWorking self.old }
         requires placed { IsTrue (is_some self.old.store.waiting) → WhereTold (H.history host.old) (λ h. (s : Standing) × IsPlaced self.old.store.journal h s) }

@@ -52,7 +52,8 @@ impl Engine {
     /// Opens the attached store, and reads its records in their order: the engine has the state for which they stand.
     ///
     /// Answers NoStore exactly where there is none, and Damaged with the first place at which the store is damaged, where
-    /// it is. Whatever it answers, and wherever it stops, the store stands for what it did.
+    /// it is. Whatever it answers, and wherever that stops, the store stands for what it did, if nothing was pending on its
+    /// files.
     pub fn start<H: Host>(alloc: Global, host: &mut H) -> Result<Engine, StartFault>
         requires { WhereTold (H.history host.old) IsAttached }
         ensures told { Tells (H.history host.old) (H.history host.new) (Starts result) }
