@@ -1,5 +1,7 @@
 -- The step of a new secret leads to the state with it.
-use Rattle.std.proofs.Common.{◌≡◌, ℕ, true, List, [], None, Ok, refl, sym, ap, ◌∙◌}
+use Rattle.std.specs.Prelude.{nat_lt}
+use Rattle.std.proofs.lemmas.Bool.{le-leb}
+use Rattle.std.proofs.Common.{◌≡◌, ℕ, ◌^◌, ◌<◌, true, subst, List, [], None, Ok, refl, sym, ap, ◌∙◌}
 use Rattle.kms_world.specs.Effect.{SecretPut, after_effect, after_effects}
 use Rattle.kms_world.specs.State.{State}
 use Rattle.kms_world.specs.declared.body.SecretBody.{SecretBody}
@@ -9,6 +11,10 @@ use Rattle.kms_world.specs.declared.secret.SecretKind.TheVariants.{Opaque}
 use Rattle.kms_world.specs.declared.secret.SecretRow.{SecretRow}
 use Rattle.kms_model.specs.Done.{effects_by}
 use Rattle.kms_model.specs.Secrets.{has_id, next_id, is_short_name, new_secret, other_field, posted}
+
+-- where the ids in memory aren't at their end, an id is left
+pub id_left : (inside ids : ℕ) → inside < 2 ^ 62 → inside ≡ ids → nat_lt ids (2 ^ 62) ≡ true
+id_left inside ids less same = le-leb _ _ (subst (λ (n : ℕ). n < 2 ^ 62) same less)
 
 -- a new secret with this id and these metadata
 abbrev pub row_of : Caller → SecretBody → ℕ → Id → List (List ℕ × List ℕ) → SecretRow

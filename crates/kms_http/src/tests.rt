@@ -107,17 +107,6 @@ fn heads(rt: HostRuntime) -> Result<(), Fail> {
     Ok(())
 }
 
-// The message that the reader gives next, which doesn't ask that the line ends.
-fn message(reader: &mut Reader) -> Result<Request, Fail> {
-    match reader.next()? {
-        Read::Message {
-            request,
-            close: false,
-        } => Ok(request),
-        _ => Err(Fail::from(NoMemory)),
-    }
-}
-
 // The project, the user, and the name of the new secret.
 fn is_post(request: &Request, project: &[u8], user: &[u8], name: &str) -> bool {
     let Op::PostSecret { body: Ok(body) } = &request.op else {
@@ -139,6 +128,31 @@ fn is_get(request: &Request, user: &[u8], number: u128) -> bool {
     request.caller.user.as_bytes() == user && id.0 == number
 }
 
+// Whether the reader gives such a message next, which doesn't ask that the line ends.
+fn next_is_post(reader: &mut Reader, project: &[u8], user: &[u8], name: &str) -> bool {
+    match reader.next() {
+        Ok(
+            Read::Message {
+                request,
+                close: false,
+            },
+        ) => is_post(&request, project, user, name),
+        _ => false,
+    }
+}
+
+fn next_is_get(reader: &mut Reader, user: &[u8], number: u128) -> bool {
+    match reader.next() {
+        Ok(
+            Read::Message {
+                request,
+                close: false,
+            },
+        ) => is_get(&request, user, number),
+        _ => false,
+    }
+}
+
 #[test]
 fn a_stream(rt: HostRuntime) -> Result<(), Fail> {
     let mut reader = Reader::new(rt.alloc());
@@ -147,15 +161,9 @@ fn a_stream(rt: HostRuntime) -> Result<(), Fail> {
     reader.feed(&POST[100..])?;
     reader.feed(GET)?;
     reader.feed(b"POST")?;
-    assert!(rt; is_post(&message(&mut reader)?, b"p1", b"u1", "a"));
+    assert!(rt; next_is_post(&mut reader, b"p1", b"u1", "a"));
     assert_eq!(rt; reader.passed(), 144);
-    assert!(rt;
-        is_get(
-            &message(&mut reader)?,
-            b"u.2",
-            0x0123456789ab_8cde_8000_0000_0000_000f
-        )
-    );
+    assert!(rt; next_is_get(&mut reader, b"u.2", 0x0123456789ab_8cde_8000_0000_0000_000f));
     assert_eq!(rt; reader.passed(), 261);
     assert_eq!(rt; reader.held(), 4);
     assert!(rt; !reader.is_empty());
