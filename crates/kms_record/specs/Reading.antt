@@ -77,9 +77,6 @@ short_text_at = passing (λ t. nat_le (length t) 255 && is_utf8 t) text_at
 abbrev pub name_at : Read (List ℕ)
 name_at = passing is_name text_at
 
-abbrev pub filled_text_at : Read (List ℕ)
-filled_text_at = passing (λ t. nat_le 1 (length t) && nat_le (length t) 255 && is_utf8 t) text_at
-
 unfoldable pub long_text_at : Read (List ℕ)
 long_text_at bytes = do
   n ← number_at w32 bytes

@@ -91,8 +91,8 @@ fn write_consumer(out: &mut Window, row: &ConsumerRow)
     ensures { out.new ≡ shown out.old (consumer_added_bytes (consumer_added_of row.now)) }
 {
     spell::number(out, count_of(row.container));
-    spell::filled_text(out, &row.name);
-    spell::filled_text(out, &row.url);
+    spell::text(out, &row.name);
+    spell::text(out, &row.url);
     spell::number(out, row.created);
 }
 
@@ -128,7 +128,7 @@ fn write_order(out: &mut Window, row: &OrderRow)
     spell::name(out, &row.creator);
     spell::number(out, row.created);
     spell::number(out, row.updated);
-    spell::filled_text(out, &row.algorithm);
+    spell::text(out, &row.algorithm);
     spell::short_number(out, row.bit_length);
     spell::optional_text(out, &row.mode);
     spell::optional_text(out, &row.name);

@@ -15,7 +15,7 @@ use std::rt::HostRuntime;
 use std::test::Fail;
 
 // Which of 2,000 changed rows are records.
-const MUTATED: u64 = 543945258;
+const MUTATED: u64 = 483683097;
 
 static ACCEPTED: [u16; 48] = [
     1, 1, 1, 1, 1, 1, 1, 64, 256, 256, 256, 256, 256, 256, 256, 1, 1, 65, 65, 1, 1, 65, 65, 1, 1,
