@@ -109,11 +109,11 @@ names_id id order_states.Pending = false
 names_id id (order_states.Active other) = is_id id other
 names_id id (order_states.Error cause) = false
 
--- an active state names an id that was given and that no other order names
+-- an active state names an id that was given, or that this change gives, and that no other order names
 abbrev pub is_named_once : State → (order : ℕ) → OrderPutState → Bool
 is_named_once s order put_states.Pending = true
 is_named_once s order (put_states.Active id) =
-    nat_lt id s.ids && list_all (λ (r : OrderRow). not (names_id (id_at s.tag id) r.state) || is_id (id_at s.tag order) r.id) s.orders
+    (nat_lt id s.ids || (id == order)) && list_all (λ (r : OrderRow). not (names_id (id_at s.tag id) r.state) || is_id (id_at s.tag order) r.id) s.orders
 is_named_once s order (put_states.Error cause) = true
 
 -- quotas are always set; a row goes where it is there
