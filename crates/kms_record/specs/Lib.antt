@@ -6,6 +6,7 @@ pub mod Consumer
 pub mod ConsumerReading
 pub mod Container
 pub mod ContainerReading
+pub mod Deletion
 pub mod Fields
 pub mod Grammar
 pub mod GrammarReading

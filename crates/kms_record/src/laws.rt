@@ -4,11 +4,13 @@ ghost use Rattle.std.specs.List.{AllByRecursion};
 ghost use Rattle.kms_world.specs.LookUp.{order_of};
 ghost use Rattle.kms_world.specs.declared.id.Id.{Id};
 ghost use Rattle.kms_world.specs.declared.order.OrderRow.{OrderRow};
+ghost use Rattle.kms_world.specs.declared.order.OrderState.TheVariants as order_states;
 ghost use Rattle.kms_world.specs.declared.secret.SecretRow.{SecretRow};
 ghost use Rattle.kms_record.specs.declared.change.Change.{Change};
 ghost use Rattle.kms_record.specs.SecretPut.{put_of};
-ghost use Rattle.kms_record.specs.Kept.{Kept, Part, Records, Base, applies, changed, is_pending, after_change, after_record};
+ghost use Rattle.kms_record.specs.Kept.{Kept, Part, Records, Base, applies, changed, after_change, after_record};
 ghost use Rattle.kms_record.specs.SecretsOnly.{id_of_count, with_secret, after_secret_change, after_secret_record};
+ghost use Rattle.kms_record.specs.Deletion.{Deletes};
 ghost use Rattle.kms_record.specs.Rising.{IsRising};
 ghost use Rattle.kms_record.specs.Orders.{AllNameApart};
 ghost use Rattle.kms_record.specs.Joined.{IsJoined};
@@ -70,10 +72,12 @@ pub fn ids_rise()
     ensures apart { (part : Part) (change : Change) (kept : Kept) → IsRising kept.state → AllNameApart kept.state.orders → applies part change kept ≡ true → AllNameApart (changed change kept).state.orders }
 {}
 
-/// An order that is no longer pending stays as it is, whatever change applies, or goes.
+/// An order that is no longer pending stays as it is, whatever change applies, but for the one that deletes it. And an
+/// order goes by that one alone, pending or not.
 pub fn settled_orders_stay()
-    ensures { (part : Part) (kept : Kept) → IsRising kept.state → (id : Id) (a b : OrderRow) → order_of id kept.state.orders ≡ Some a → is_pending a.state ≡ false
-        → (change : Change) → applies part change kept ≡ true → order_of id (changed change kept).state.orders ≡ Some b → b ≡ a }
+    ensures stay { (part : Part) (kept : Kept) → IsRising kept.state → (id : Id) (a : OrderRow) → order_of id kept.state.orders ≡ Some a → (a.state ≡ order_states.Pending → ⊥)
+        → (change : Change) → applies part change kept ≡ true → (Deletes kept.state.tag id change → ⊥) → order_of id (changed change kept).state.orders ≡ Some a }
+    ensures go { (kept : Kept) (id : Id) (a : OrderRow) → order_of id kept.state.orders ≡ Some a → (change : Change) → order_of id (changed change kept).state.orders ≡ None → Deletes kept.state.tag id change }
 {}
 
 /// Consumers and access lists hang on rows that are there, whatever change applies.
