@@ -6,6 +6,7 @@ pub mod ConsumerLaws
 pub mod ContainerLaws
 pub mod FieldLaws
 pub mod GrammarLaws
+pub mod IdLimitLaws
 pub mod JoinedLaws
 pub mod KeptLaws
 pub mod KeptLists

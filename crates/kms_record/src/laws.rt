@@ -64,11 +64,12 @@ pub fn records_apply_in_order()
     ensures secrets { (a b : List (List Change)) (kept : Kept) → after_secret_record (a ++ b) kept ≡ option_and_then (after_secret_record b) (after_secret_record a kept) }
 {}
 
-/// In each table ids rise and were given, whatever change applies, in records and in a base; a base gives no ids; and no
-/// two orders name one id.
+/// In each table ids rise and were given, whatever change applies, in records and in a snapshot; a snapshot gives no ids;
+/// no more are given than a count has room for; and no two orders name one id.
 pub fn ids_rise()
     ensures rise { (part : Part) (change : Change) (kept : Kept) → IsRising kept.state → applies part change kept ≡ true → IsRising (changed change kept).state }
     ensures base { (change : Change) (kept : Kept) → IsRising kept.state → applies Base change kept ≡ true → (changed change kept).state.ids ≡ kept.state.ids }
+    ensures within { (part : Part) (change : Change) (kept : Kept) → IsRising kept.state → kept.state.ids ≤ 2 ^ 62 → applies part change kept ≡ true → (changed change kept).state.ids ≤ 2 ^ 62 }
     ensures apart { (part : Part) (change : Change) (kept : Kept) → IsRising kept.state → AllNameApart kept.state.orders → applies part change kept ≡ true → AllNameApart (changed change kept).state.orders }
 {}
 
