@@ -2,7 +2,7 @@
 """Computes the tables of the tests in crates/kms_record/src again, with a writer and a reader of its own, and ends with
 status 1 where a table differs. With --write it writes the tables there.
 
-ROWS has bytes and whether they are a record: each kind of change, and each limit at its edge and one past it. MUTATED
+The PARTs of the rows have bytes and whether they are a record: each kind of change, and each limit at its edge and one past it. MUTATED
 says which of 2,000 changed rows are records, folded into one number. ACCEPTED has, for each place of the record
 ONE_SECRET, how many of the 256 values make it a record."""
 import re
@@ -14,6 +14,7 @@ SOURCES = Path(__file__).resolve().parent.parent / "crates" / "kms_record" / "sr
 END = 253402300800
 NAME = re.compile(rb"[A-Za-z0-9._-]{1,64}")
 MUTATIONS = 2000
+PARTS = 14
 
 
 def u8(n):
@@ -393,6 +394,7 @@ def rows():
 
 
 ROWS = rows()
+PARTED = [ROWS[part::PARTS] for part in range(PARTS)]
 
 
 def mutated():
@@ -400,7 +402,8 @@ def mutated():
     state, folded = 1, 0
     for _ in range(MUTATIONS):
         state = (state * 1103515245 + 12345) % 2**31
-        row = bytearray(ROWS[state // 7 % len(ROWS)])
+        part = PARTED[state // 7 % PARTS]
+        row = bytearray(part[state // 131 % len(part)])
         if row:
             row[state // 11 % len(row)] = state // 65536 % 256
         folded = (folded * 3 + is_body(bytes(row))) % 1000000007
@@ -422,8 +425,9 @@ def accepted():
 
 
 TABLES = {
-    ("rows.rt", "pub static ROWS"): f"pub static ROWS: [&str; {len(ROWS)}] = [\n"
-    + "".join(f'    "{"-+"[is_body(data)]}{data.hex()}",\n' for data in ROWS) + "];\n",
+    **{("rows.rt", f"static PART_{part}"): f"static PART_{part}: [&str; {len(rows)}] = [\n"
+       + "".join(f'    "{"-+"[is_body(data)]}{data.hex()}",\n' for data in rows) + "];\n"
+       for part, rows in enumerate(PARTED)},
     ("tests.rt", "static ACCEPTED"): f"static ACCEPTED: [u16; {len(GOOD)}] = [\n" + accepted() + "];\n",
     ("tests.rt", "const MUTATED"): f"const MUTATED: u64 = {mutated()};\n",
 }

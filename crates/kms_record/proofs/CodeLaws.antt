@@ -1,5 +1,5 @@
 -- The readers of what a number of one byte stands for are exact.
-use Rattle.std.proofs.Common.{◌≡◌, ℕ, Bool, true, false, cond, eqb, List, [], ◌∷◌, ◌++◌, Option, Some, None, refl, sym, ap, subst, ◌∙◌, inl, inr, ◌⊎◌}
+use Rattle.std.proofs.Common.{◌≡◌, ℕ, cond, eqb, List, [], ◌∷◌, Option, Some, None, refl, ap, subst, ◌∙◌, inl, inr, ◌⊎◌}
 use Rattle.std.proofs.lemmas.Bool.{eqb-true}
 use Rattle.kms_world.specs.declared.secret.SecretKind.{SecretKind}
 use Rattle.kms_world.specs.declared.secret.SecretKind.TheVariants as secrets
@@ -10,7 +10,7 @@ use Rattle.kms_world.specs.declared.payload.Media.TheVariants as media
 use Rattle.kms_world.specs.declared.order.Cause.{Cause}
 use Rattle.kms_world.specs.declared.order.Cause.TheVariants as causes
 use Rattle.kms_record.specs.Fields.{u8_bytes, secret_kind_number, container_kind_number, media_number, cause_number}
-use Rattle.kms_record.specs.Reading.{◌>>=◌, byte_at, coded_at, secret_kind_of, secret_kind_at, container_kind_of, container_kind_at, media_of, media_at, cause_of, cause_at}
+use Rattle.kms_record.specs.Reading.{byte_at, coded_at, secret_kind_of, secret_kind_at, container_kind_of, container_kind_at, media_of, media_at, cause_of, cause_at}
 use Rattle.kms_record.proofs.Codec.{IsBytes, IsBytes-rest, bind_some, some_is, Takes, IsCodec}
 use Rattle.kms_record.proofs.FieldLaws.{chosen}
 

@@ -9,7 +9,7 @@ use Rattle.std.proofs.lemmas.Nat.{be_bytes_2, be_bytes_4, be_bytes_8, from_be_by
 use Rattle.std.proofs.lemmas.Str.{IsUtf8-from_is_utf8, is_utf8-from_IsUtf8}
 use Rattle.kms_world.specs.Name.{is_name}
 use Rattle.kms_world.specs.Times.{end_of_times}
-use Rattle.kms_record.specs.Fields.{u8_bytes, u16_bytes, u32_bytes, u64_bytes, text_bytes, option_bytes, token_bytes, mark_bytes, IsShort, IsFilled, IsBitLength, IsToken}
+use Rattle.kms_record.specs.Fields.{u16_bytes, u32_bytes, u64_bytes, text_bytes, option_bytes, token_bytes, mark_bytes, IsShort, IsFilled, IsBitLength, IsToken}
 use Rattle.kms_record.specs.Reading.{◌>>=◌, Read, taken, byte_at, number_at, id_at, time_at, bit_length_at, text_at, short_text_at, filled_text_at, long_text_at, token_at, name_at, mark_at, option_at}
 use Rattle.kms_record.proofs.Codec.{IsBytes, IsBytes-drop, IsBytes-take, IsBytes-rest, bind_some, passed, not_refused, found, some_is, Takes, Takes-then, IsCodec, refitted, passing_codec}
 

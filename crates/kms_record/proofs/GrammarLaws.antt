@@ -1,18 +1,16 @@
 -- The readers of steps and snapshots are exact.
-use Rattle.std.proofs.Common.{◌≡◌, ℕ, zero, suc, ◌<◌, ◌≤◌, Bool, true, false, cond, eqb, List, [], ◌∷◌, ◌++◌, length, Option, Some, None, refl, sym, ap, subst, ◌∙◌, append_assoc, arith}
-use Rattle.std.specs.List.{flat_map, AllByRecursion}
+use Rattle.std.proofs.Common.{◌≡◌, ℕ, Bool, true, false, cond, eqb, List, [], ◌++◌, length, Option, Some, None, refl, sym, ap, subst, ◌∙◌}
 use Rattle.std.specs.Int.{w32, w64}
 use Rattle.std.proofs.lemmas.Bool.{eqb-true}
 use Rattle.std.proofs.lemmas.List.{append-nil, nil_from_length}
-use Rattle.std.proofs.lemmas.List.Concat.{flat_map-cons}
 use Rattle.kms_record.specs.declared.change.Change.{Change}
 use Rattle.kms_record.specs.declared.change.Change.TheVariants.{KeyAdded, KeyRewrapped, TokenReplaced, KeyDropped, SecretPut, PayloadPut, MetadataPut, ContainerPut, ConsumerAdded, ConsumerDropped, AclPut, AclDropped, OrderPut, QuotaPut, Deleted}
 use Rattle.kms_record.specs.Grammar.{change_bytes, IsChange, step_bytes, IsStep, record_bytes, AreSteps, snapshot_bytes, AreChanges, IsRecord, IsSnapshot}
-use Rattle.kms_record.specs.Reading.{◌>>=◌, Read, byte_at, number_at, many, alternatives_at}
+use Rattle.kms_record.specs.Reading.{Read, byte_at, number_at, alternatives_at}
 use Rattle.kms_record.specs.GrammarReading.{changes_by_kind, change_at, step_at, alone, record_of, snapshot_of}
-use Rattle.kms_record.proofs.Codec.{IsBytes, IsBytes-rest, bind_some, passed, not_refused, some_is, Takes, Takes-then, IsCodec, refitted}
+use Rattle.kms_record.proofs.Codec.{IsBytes, bind_some, passed, IsCodec, refitted}
 use Rattle.kms_record.proofs.FieldLaws.{u16_codec, u32_codec, u64_codec, id_codec}
-use Rattle.kms_record.proofs.ListLaws.{counted, counted_codec, some_counted, some_counted_codec, IsAlternative, alternatives_codec, made_alternative}
+use Rattle.kms_record.proofs.ListLaws.{counted, counted_codec, some_counted, some_counted_codec, alternatives_codec, made_alternative}
 use Rattle.kms_record.proofs.KeyLaws.{wrapped_key_codec, key_dropped_codec}
 use Rattle.kms_record.proofs.PayloadLaws.{token_replaced_codec, payload_put_codec}
 use Rattle.kms_record.proofs.SecretLaws.{secret_put_codec}

@@ -1,14 +1,13 @@
 -- What changes do, step by step.
-use Rattle.std.proofs.Common.{◌≡◌, ℕ, ◌^◌, ◌<◌, Bool, true, false, ◌&&◌, cond, ltb, eqb, List, [], ◌∷◌, ◌++◌, Option, Some, None, refl, sym, ap, subst, ◌∙◌, arith}
+use Rattle.std.proofs.Common.{◌≡◌, ℕ, ◌^◌, ◌<◌, true, ◌&&◌, ltb, eqb, List, [], ◌∷◌, ◌++◌, Option, Some, None, refl, ap, subst}
 use Rattle.std.specs.Prelude.{option_and_then}
 use Rattle.std.proofs.lemmas.Bool.{eqb-true, eq-eqb, le-leb}
-use Rattle.kms_world.specs.Id.{id_number, id_at}
+use Rattle.kms_world.specs.Id.{id_number}
 use Rattle.kms_world.specs.declared.id.Id.{Id}
 use Rattle.kms_world.specs.declared.payload.Payload.{Payload}
 use Rattle.kms_world.specs.declared.secret.SecretRow.{SecretRow}
 use Rattle.kms_record.specs.declared.change.Change.{Change}
 use Rattle.kms_record.specs.declared.change.Change.TheVariants as changes
-use Rattle.kms_record.specs.declared.secret_put.SecretPut as put_type
 use Rattle.kms_record.specs.SecretPut.{row_of, put_of}
 use Rattle.kms_record.specs.Kept.{Kept, Records, after_change, after_step, after_record}
 use Rattle.kms_record.specs.SecretsOnly.{id_of_count, with_secret, after_secret_change, after_secret_step, after_secret_record}

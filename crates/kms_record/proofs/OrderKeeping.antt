@@ -1,13 +1,10 @@
 -- What the order law needs of changes and effects.
-use Rattle.std.proofs.Common.{◌≡◌, Option, ℕ, ◌+◌, ◌<◌, Bool, true, false, not, eqb, List, [], ◌∷◌, ◌++◌, map, Some, None, refl, sym, ap, subst, ◌∙◌, arith, inl, inr}
+use Rattle.std.proofs.Common.{◌≡◌, Option, ℕ, ◌<◌, Bool, true, false, not, List, [], ◌∷◌, map, Some, None, refl, sym, ap, subst, ◌∙◌, arith, inl, inr}
 use Rattle.std.specs.Prelude.{◌||◌, filter}
-use Rattle.std.specs.List.{AllByRecursion, AllZip}
-use Rattle.std.proofs.lemmas.Bool.{cases_Bool, and_parts, or_cases, eqb-true, eq-eqb, ne_eqb, not-true, false_from_ne_true}
-use Rattle.kms_world.specs.Id.{id_number}
+use Rattle.std.specs.List.{AllByRecursion}
+use Rattle.std.proofs.lemmas.Bool.{cases_Bool, and_parts, or_cases, eqb-true, ne_eqb, not-true, false_from_ne_true}
 use Rattle.kms_world.specs.State.{State}
 use Rattle.kms_world.specs.declared.id.Id.{Id}
-use Rattle.kms_world.specs.declared.payload.Payload.{Payload}
-use Rattle.kms_world.specs.declared.secret.SecretRow.{SecretRow}
 use Rattle.kms_world.specs.declared.order.OrderRow.{OrderRow}
 use Rattle.kms_world.specs.Id.{is_id}
 use Rattle.kms_world.specs.Effect.{put_row, after_effect}
@@ -18,13 +15,12 @@ use Rattle.kms_record.specs.ChangeEffect.{order_state_at, order_at}
 use Rattle.kms_record.specs.declared.order.OrderPut.{OrderPut as Order}
 use Rattle.kms_record.specs.declared.order.OrderPutState.{OrderPutState}
 use Rattle.kms_record.specs.declared.order.OrderPutState.TheVariants as put_states
-use Rattle.kms_record.specs.Kept.{Kept, Part, applies, changed, names_id, is_named_once, secret_ids}
+use Rattle.kms_record.specs.Kept.{Kept, Part, applies, changed, names_id, is_named_once}
 use Rattle.kms_record.specs.Orders.{NameApart, AllNameApart}
 use Rattle.kms_record.specs.ChangeEffect.{quota_effect}
 use Rattle.kms_record.specs.declared.quota.QuotaLimits.{QuotaLimits}
-use Rattle.kms_record.specs.Rising.{IsGiven, Rises, IsRising}
+use Rattle.kms_record.specs.Rising.{Rises, IsRising}
 use Rattle.kms_record.proofs.KeptLists.{all_filter, all_passed}
-use Rattle.kms_record.proofs.RisingLaws.{below_all, given_below}
 
 -- ---- no two orders name the same id
 

@@ -1,5 +1,5 @@
 -- The rows of a snapshot as changes.
-use Rattle.std.specs.Prelude.{◌≡◌, ℕ, ◌%◌, ◌^◌, ◌≤◌, ℤ, pos, negsuc, List, [], Option, Some, None, map, option_map}
+use Rattle.std.specs.Prelude.{ℕ, ◌%◌, ◌^◌, ℤ, pos, negsuc, List, [], Option, Some, None, map, option_map}
 use Rattle.kms_world.specs.declared.id.Id.{Id}
 use Rattle.kms_world.specs.declared.payload.Payload.{Payload as Sealed}
 use Rattle.kms_world.specs.declared.secret.SecretRow.{SecretRow}

@@ -4,7 +4,6 @@ use Rattle.std.specs.Prelude.{ℕ, ◌∷◌, ℤ, pos, negsuc, List, Option, So
 use Rattle.kms_world.specs.Id.{id_at}
 use Rattle.kms_world.specs.Effect.{Effect}
 use Rattle.kms_world.specs.Effect as effects
-use Rattle.kms_world.specs.declared.id.Id.{Id}
 use Rattle.kms_world.specs.declared.container.ContainerRow.{ContainerRow}
 use Rattle.kms_world.specs.declared.order.OrderState.{OrderState}
 use Rattle.kms_world.specs.declared.order.OrderState.TheVariants as order_states

@@ -1,8 +1,8 @@
 -- After `init` the same host can serve the store.
-use Rattle.std.proofs.Common.{◌≡◌, inl, inr, ℕ, ◌+◌, ◌≤◌, List, [], ◌∷◌, ◌++◌, Bool, false, Option, Result, Ok, Err, refl, sym, ap, subst, ◌∙◌, arith}
+use Rattle.std.proofs.Common.{◌≡◌, inl, inr, ℕ, List, [], ◌∷◌, ◌++◌, Bool, false, Result, Ok, Err, refl, sym, ap, subst, ◌∙◌, arith}
 use Rattle.std.specs.Prelude.{◌||◌, ◌==◌}
 use Rattle.kms_host.specs.History.{History}
-use Rattle.kms_host.specs.Line.{is_shut, IsOpen}
+use Rattle.kms_host.specs.Line.{is_shut}
 use Rattle.kms_host.specs.Moment.{then_calls}
 use Rattle.kms_host.specs.Store.{apart_from_files, OnlyAttached}
 use Rattle.kms_host.specs.declared.call.Call.{Call}
@@ -11,7 +11,7 @@ use Rattle.kms_host.specs.declared.call.NameFault.{NameFault}
 use Rattle.kms_host.proofs.LineLaws.{is_shut-append}
 use Rattle.kms_host.proofs.Moments.{at_now, then_calls-calls}
 use Rattle.kms_host.proofs.StoreLaws.{only_attached-append}
-use Rattle.kms_serve.specs.Init.{naming, drawing, IsAlone, IsUnderWay, CanBeServed, IsServedNext}
+use Rattle.kms_serve.specs.Init.{naming, IsAlone, IsUnderWay, IsServedNext}
 
 same_names : (store : List ℕ) (calls : List Call) → OnlyAttached store (apart_from_files calls) → OnlyAttached store calls
 same_names store [] h = h

@@ -1,22 +1,19 @@
 -- Each answer of the plain key manager has a status with a reason phrase.
-use Rattle.std.proofs.Common.{ℕ, Bool, true, false, Option, Some, None, Result, Ok, Err, refl}
+use Rattle.std.proofs.Common.{ℕ, Option, Result, Ok, Err, refl}
 use Rattle.kms_json.proofs.Phrases.{HasPhrase}
 use Rattle.kms_model.specs.Ask.{answer_to}
 use Rattle.kms_model.specs.Done.{Done, ◌>>=◌, answer_by, only_if, there}
-use Rattle.kms_model.specs.Secrets.{has_id, is_short_name, new_secret, next_id, posted, secret_at, shown}
+use Rattle.kms_model.specs.Secrets.{has_id, is_short_name, posted, secret_at, shown}
 use Rattle.kms_model.specs.Run.{asked_answer}
-use Rattle.kms_world.specs.Effect.{SecretPut}
-use Rattle.kms_world.specs.Secret.{attributes_of}
 use Rattle.kms_world.specs.State.{State}
 use Rattle.kms_world.specs.declared.body.SecretBody.{SecretBody}
 use Rattle.kms_world.specs.declared.caller.Caller.{Caller}
 use Rattle.kms_world.specs.declared.id.Id.{Id}
 use Rattle.kms_world.specs.declared.operation.Op.{Op}
-use Rattle.kms_world.specs.declared.operation.Op.TheVariants.{ListSecrets, PostSecret, GetSecret, PutPayload, DeleteSecret, GetPayload, GetMetadata, PutMetadata, PostPair, GetPair, PutPair, DeletePair, GetAcl, PutAcl, PatchAcl, DeleteAcl, ListContainers, PostContainer, GetContainer, DeleteContainer, PostMember, DeleteMember, ListConsumers, PostConsumer, DeleteConsumer, ListOrders, PostOrder, GetOrder, DeleteOrder, GetQuotas, ListQuotas, GetProjectQuotas, PutProjectQuotas, DeleteProjectQuotas}
+use Rattle.kms_world.specs.declared.operation.Op.TheVariants.{PostSecret, GetSecret}
 use Rattle.kms_world.specs.declared.operation.Request.{Request}
 use Rattle.kms_world.specs.declared.operation.Request.TheVariants.{Asking, Refusing}
 use Rattle.kms_world.specs.declared.refusal.Refusal.{Refusal}
-use Rattle.kms_world.specs.declared.secret.SecretRow.{SecretRow}
 
 -- a test that refuses has a phrase; else what comes after it has one
 after : {A : Type 0} (test : Result A Refusal) (rest : A → Result Done Refusal) → ((x : A) → HasPhrase (answer_by (rest x))) → HasPhrase (answer_by (test >>= rest))

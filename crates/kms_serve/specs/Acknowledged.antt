@@ -1,5 +1,5 @@
 -- How many requests were acknowledged on a line.
-use Rattle.std.specs.Prelude.{ℕ, ◌+◌, ◌-◌, ◌≤◌, max, nat_lt, List, [], ◌∷◌, length, map, take, Bool, Option, ◌==◌, ◌&&◌, if◌then◌else◌}
+use Rattle.std.specs.Prelude.{ℕ, ◌+◌, ◌-◌, ◌≤◌, max, nat_lt, List, [], ◌∷◌, length, map, take, Option, ◌==◌, ◌&&◌, if◌then◌else◌}
 use Rattle.kms_host.specs.Line.{sent}
 use Rattle.kms_host.specs.declared.call.Call.{Call}
 use Rattle.kms_model.specs.Run.{answers_of}

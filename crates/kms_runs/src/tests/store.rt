@@ -32,7 +32,7 @@ static DAMAGED: [u8; 71] = [
 ];
 
 // The calls of the store before the first request: naming it, and those that open it.
-const OPENING: u64 = 12;
+const OPENING: u64 = 10;
 
 // Whether a run over a store whose file 0 is this ends so, having sent this and leaving that.
 fn serves(

@@ -1,4 +1,4 @@
-use Rattle.std.proofs.Common.{◌∙◌, ◌≡◌, ap, arith}
+use Rattle.std.proofs.Common.{◌∙◌, ap, arith}
 use Rattle.std.specs.Prelude.{◌-◌, ℕ}
 use Rattle.kms_record.specs.Grammar.{change_bytes}
 use Rattle.kms_record.specs.Window.{Shown}

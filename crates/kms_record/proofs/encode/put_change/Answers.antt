@@ -1,6 +1,6 @@
-use Rattle.std.proofs.Common.{◌≡◌, ◌∙◌, ◌<◌, ◌≤◌, ◌+◌, ◌-◌, arith, take, drop, length, ℕ, List, sym}
+use Rattle.std.proofs.Common.{◌≡◌, ◌∙◌, ◌<◌, ◌+◌, ◌-◌, arith, take, drop, length, ℕ, List}
 use Rattle.kms_record.specs.Grammar.{change_bytes}
-use Rattle.kms_record.proofs.WindowLaws.{window_of, window_goes_out, window_is_some, IsOut}
+use Rattle.kms_record.proofs.WindowLaws.{window_of, window_goes_out, window_is_some}
 use Rattle.kms_record.proofs.encode.put_change.Goals as goal
 
 pub overflow_add-from : goal.overflow_add-from

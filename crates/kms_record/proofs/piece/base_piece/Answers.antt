@@ -1,4 +1,4 @@
-use Rattle.std.proofs.Common.{◌≡◌, ◌∙◌, ◌<◌, ◌≤◌, ◌+◌, ◌-◌, arith, take, drop, length, min, ℕ, List, ap, length-drop}
+use Rattle.std.proofs.Common.{◌≡◌, ◌∙◌, ◌<◌, ◌≤◌, ◌+◌, ◌-◌, arith, take, drop, length, ℕ, List, length-drop}
 use Rattle.kms_record.specs.Base.{base_bytes}
 use Rattle.kms_record.proofs.PieceLaws.{window_part, more_copied, window_has_some}
 use Rattle.kms_record.proofs.WindowLaws.{window_of}

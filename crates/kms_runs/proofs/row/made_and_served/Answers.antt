@@ -26,5 +26,5 @@ run-served-requires-clause-store c = λ store is.
     let s = string_bytes c.in_ok-from_str-3.field-0 in
     let create = makes a b s c.in_ok-from_str.ensures.ok c.in_ok-from_str-2.ensures.ok c.in_ok-from_str-3.ensures.ok in
     let can = made (a ∷ b ∷ s ∷ []) (codes "s") c.run-made.result create c.in_ok-host.ensures.store c.in_ok-host.ensures.line c.run-made.ensures.answers in
-    let same = named _ _ _ _ _ _ _ store c.in_ok-from_str-6.ensures.ok is in
-    subst (λ (x : List ℕ). WhereTold _ (λ h. OnlyAttached x h.calls)) same (known_weaker (λ h. OnlyAttached (codes "s") h.calls) can (λ now k. k.named))
+    let same = named (string_bytes c.in_ok-from_str-4.field-0) (string_bytes c.in_ok-from_str-5.field-0) (string_bytes c.in_ok-from_str-6.field-0) (string_bytes c.in_ok-from_str-7.field-0) (string_bytes c.in_ok-from_str-8.field-0) (string_bytes c.in_ok-from_str-9.field-0) (string_bytes c.in_ok-from_str-10.field-0) store c.in_ok-from_str-6.ensures.ok is in
+    subst (λ (x : List ℕ). WhereTold c.run-made.new.host.history (λ h. OnlyAttached x h.calls)) same (known_weaker (λ h. OnlyAttached (codes "s") h.calls) can (λ now k. k.named))

@@ -1,4 +1,4 @@
-use Rattle.std.proofs.Common.{arith, rules}
+use Rattle.std.proofs.Common.{rules}
 use Rattle.kms_record.specs.Window.{shown}
 use Rattle.kms_record.proofs.WindowLaws.{put_shows}
 use Rattle.kms_record.proofs.window.Window.put.Goals as goal
