@@ -11,6 +11,7 @@ pub mod JoinedLaws
 pub mod KeptLaws
 pub mod KeptLists
 pub mod KeyLaws
+pub mod KeyNumberLaws
 pub mod ListLaws
 pub mod ManyLaws
 pub mod MemberLaws

@@ -13,6 +13,7 @@ pub mod GrammarReading
 pub mod Joined
 pub mod Kept
 pub mod Key
+pub mod KeyNumbers
 pub mod KeyReading
 pub mod Metadata
 pub mod MetadataReading

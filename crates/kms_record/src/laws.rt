@@ -11,6 +11,7 @@ ghost use Rattle.kms_record.specs.SecretPut.{put_of};
 ghost use Rattle.kms_record.specs.Kept.{Kept, Part, Records, Base, applies, changed, after_change, after_record};
 ghost use Rattle.kms_record.specs.SecretsOnly.{id_of_count, with_secret, after_secret_change, after_secret_record};
 ghost use Rattle.kms_record.specs.Deletion.{Deletes};
+ghost use Rattle.kms_record.specs.KeyNumbers.{KeysRise};
 ghost use Rattle.kms_record.specs.Rising.{IsRising};
 ghost use Rattle.kms_record.specs.Orders.{AllNameApart};
 ghost use Rattle.kms_record.specs.Joined.{IsJoined};
@@ -71,6 +72,12 @@ pub fn ids_rise()
     ensures base { (change : Change) (kept : Kept) → IsRising kept.state → applies Base change kept ≡ true → (changed change kept).state.ids ≡ kept.state.ids }
     ensures within { (part : Part) (change : Change) (kept : Kept) → IsRising kept.state → kept.state.ids ≤ 2 ^ 62 → applies part change kept ≡ true → (changed change kept).state.ids ≤ 2 ^ 62 }
     ensures apart { (part : Part) (change : Change) (kept : Kept) → IsRising kept.state → AllNameApart kept.state.orders → applies part change kept ≡ true → AllNameApart (changed change kept).state.orders }
+{}
+
+/// The numbers of a project's keys rise, from 1 at least, whatever change applies: so a number is never given twice while
+/// its key is there.
+pub fn key_numbers_rise()
+    ensures { (part : Part) (change : Change) (kept : Kept) → KeysRise kept.keys → applies part change kept ≡ true → KeysRise (changed change kept).keys }
 {}
 
 /// An order that is no longer pending stays as it is, whatever change applies, but for the one that deletes it. And an
