@@ -11,7 +11,7 @@ ghost use Rattle.kms_record.specs.SecretPut.{put_of};
 ghost use Rattle.kms_record.specs.Kept.{Kept, Part, Records, Base, applies, changed, after_change, after_record};
 ghost use Rattle.kms_record.specs.SecretsOnly.{id_of_count, with_secret, after_secret_change, after_secret_record};
 ghost use Rattle.kms_record.specs.Deletion.{Deletes};
-ghost use Rattle.kms_record.specs.KeyNumbers.{KeysRise};
+ghost use Rattle.kms_record.specs.KeyNumbers.{KeysRise, KeysStandApart};
 ghost use Rattle.kms_record.specs.Rising.{IsRising};
 ghost use Rattle.kms_record.specs.Orders.{AllNameApart};
 ghost use Rattle.kms_record.specs.Joined.{IsJoined};
@@ -78,6 +78,11 @@ pub fn ids_rise()
 /// its key is there.
 pub fn key_numbers_rise()
     ensures { (part : Part) (change : Change) (kept : Kept) → KeysRise kept.keys → applies part change kept ≡ true → KeysRise (changed change kept).keys }
+{}
+
+/// Where no two keys of one project have the same number, none have whatever change applies.
+pub fn keys_stay_apart()
+    ensures { (part : Part) (change : Change) (kept : Kept) → KeysStandApart kept.keys → applies part change kept ≡ true → KeysStandApart (changed change kept).keys }
 {}
 
 /// An order that is no longer pending stays as it is, whatever change applies, but for the one that deletes it. And an
