@@ -1,4 +1,4 @@
--- The changes of a base give no ids.
+-- The changes of a snapshot give no ids.
 use Rattle.std.proofs.Common.{◌≡◌, ℕ, ◌<◌, Bool, true, ltb, List, [], ◌∷◌, map, Option, Some, None, refl, arith, inl, inr}
 use Rattle.std.specs.Prelude.{find}
 use Rattle.std.specs.List.{list_all}
@@ -27,7 +27,7 @@ module _ {X : Type 0} (id_of : X → Id) where
     | inr f ↦ given_at tag n id p xs r.2 (rw f at h)
   ]
 
--- ---- a base gives no ids
+-- ---- a snapshot gives no ids
 
 pub none_given : (s : State) (id : Id) → id.0 < id_number s.tag s.ids → ids_with id s ≡ s.ids
 none_given s id lt = rw (ne_eqb id.0 (id_number s.tag s.ids) (λ e. absurd (omega (arith, e, lt)))) refl

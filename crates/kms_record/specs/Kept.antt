@@ -28,7 +28,7 @@ pub record Kept : Type 0 where
   pub state : State
   pub keys : List WrappedKey
 
--- where changes stand: in records, or in a base
+-- where changes stand: in records, or in a snapshot
 pub data Part : Type 0 where
   Records : Part
   Base : Part
@@ -73,8 +73,8 @@ is_under project number row = bytes_eq project row.project && has row.payload (�
 
 -- ---- whether a change applies
 
--- The id of a new row. In records it is the count of ids given. In a base it is below that, greater than every earlier id
--- of its own kind of row, and no row of another kind has it.
+-- The id of a new row. In records it is the count of ids given. In a snapshot it is below that, greater than every
+-- earlier id of its own kind of row, and no row of another kind has it.
 abbrev pub is_new : Part → State → (own : List Id) → (count : ℕ) → Bool
 is_new Records s own count = (count == s.ids) && nat_lt count (2 ^ 62)
 is_new Base s own count = nat_lt count s.ids && list_all (λ (i : Id). nat_lt i.0 (id_number s.tag count)) own && not (is_taken s (id_at s.tag count))

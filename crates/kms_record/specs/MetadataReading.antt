@@ -7,7 +7,7 @@ use Rattle.kms_record.specs.Reading.{Read, id_at, time_at, short_text_at, both, 
 unfoldable pub pair_at : Read (List ℕ × List ℕ)
 pair_at = both short_text_at short_text_at
 
--- each key comes before all behind it
+-- each key comes before all after it
 abbrev pub are_ascending : List (List ℕ × List ℕ) → Bool
 are_ascending = pairwise (λ p q. is_below p.0 q.0)
 

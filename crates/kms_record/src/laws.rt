@@ -59,7 +59,7 @@ pub fn a_put_secret_is_a_change()
     ensures { (change : Change) (kept after : Kept) → after_secret_change change kept ≡ Some after → after_change Records change kept ≡ Some after }
 {}
 
-/// The steps of two records apply one behind the other.
+/// The steps of two records apply one after the other.
 pub fn records_apply_in_order()
     ensures all { (a b : List (List Change)) (kept : Kept) → after_record (a ++ b) kept ≡ option_and_then (after_record b) (after_record a kept) }
     ensures secrets { (a b : List (List Change)) (kept : Kept) → after_secret_record (a ++ b) kept ≡ option_and_then (after_secret_record b) (after_secret_record a kept) }

@@ -1,4 +1,4 @@
-// Bytes in hexadecimal, behind a plus where they are a record and a minus where they aren't. tests/record_vectors.py
+// Bytes in hexadecimal, after a plus where they are a record and a minus where they aren't. tests/record_vectors.py
 // computes them.
 
 static PART_0: [&str; 27] = [

@@ -38,7 +38,7 @@ fn digit(letter: u8) -> u8
     }
 }
 
-// The bytes that a row has behind its mark.
+// The bytes that a row has after its mark.
 fn bytes_of(alloc: Global, row: &str) -> Result<Vec<u8>, Fail> {
     let mut bytes = Vec::new(alloc);
     let mut high = None;
