@@ -173,8 +173,8 @@ class Input:
             raise Off
         return value
 
-    def text(self, low=0, high=255):
-        data = self.take(self.number(2, low, high + 1))
+    def text(self):
+        data = self.take(self.number(2, 0, 256))
         try:
             data.decode()
         except UnicodeDecodeError as fault:
@@ -211,7 +211,7 @@ class Input:
         self.time()
 
     def pair(self):
-        key = self.text(1)
+        key = self.text()
         self.text()
         return key
 
@@ -269,8 +269,8 @@ class Input:
             self.listed(self.member)
         if kind in (9, 10):
             self.id()
-            self.text(1)
-            self.text(1)
+            self.text()
+            self.text()
         if kind == 9:
             self.time()
         if kind == 11:
@@ -285,7 +285,7 @@ class Input:
             self.id()
         if kind == 13:
             self.head()
-            self.text(1)
+            self.text()
             self.number(2, 1, 32768)
             self.option(self.text)
             self.option(self.text)
@@ -334,8 +334,8 @@ def optional_texts(make, name):
     return rows + edges(make, name, [], BAD_TEXTS[:2])
 
 
-def filled_texts(make, name):
-    return edges(make, name, ["x", "x" * 255, "\u00e9"], ["", "x" * 256, *BAD_TEXTS])
+def texts(make, name):
+    return edges(make, name, ["", "x", "x" * 255, "\u00e9"], ["x" * 256, *BAD_TEXTS])
 
 
 KINDS = [key(1), key(2), token_replaced(), key_dropped(), secret(), payload(), metadata(), container(), consumer_added(),
@@ -366,15 +366,15 @@ def rows():
     pairs = lambda *keys: [(name, "") for name in keys]
     hundred = [f"k{n:02}" for n in range(101)]
     out += edges(metadata, "pairs", [[], pairs("a"), pairs("a", "aa", "b"), pairs("A", "a"), pairs("a", "\u00e9"),
-                                     pairs(*sorted(hundred[:100])), [("x" * 255, "y" * 255)]],
-                 [pairs("a", "a"), pairs("b", "a"), pairs("aa", "a"), pairs("a", "c", "b"), pairs("a", "b", "a"), pairs(""),
+                                     pairs(""), pairs("", "a"), pairs(*sorted(hundred[:100])), [("x" * 255, "y" * 255)]],
+                 [pairs("a", "a"), pairs("b", "a"), pairs("aa", "a"), pairs("a", "c", "b"), pairs("a", "b", "a"), pairs("a", ""),
                   pairs(*sorted(hundred)), [("x" * 256, "")], [("x", "y" * 256)], [(b"\xff", "")], [("x", b"\xc3(")]])
     out += heads(container) + optional_texts(container, "name") + edges(container, "kind", [0, 1, 2], [3, 255])
     members = lambda count: [(None, n) for n in range(count)]
     out += edges(container, "members", [[], members(100), [("x" * 255, 0)], [(None, 1), (None, 1)], [("", 2**62 - 1)]],
                  [members(101), [("x" * 256, 0)], [(b"\xff", 0)], [(None, 2**62)]])
     for make in (consumer_added, consumer_dropped):
-        out += edges(make, "container", [2**62 - 1], [2**62]) + filled_texts(make, "name") + filled_texts(make, "url")
+        out += edges(make, "container", [2**62 - 1], [2**62]) + texts(make, "name") + texts(make, "url")
     out += edges(consumer_added, "created", [0, END - 1], [END])
     out += edges(acl, "target", [2**62 - 1], [2**62]) + edges(acl, "access", [0, 1], [2])
     out += edges(acl, "created", [END - 1], [END]) + edges(acl, "updated", [END - 1], [END])
@@ -382,7 +382,7 @@ def rows():
     out += edges(acl, "users", [[], ["u"], users(100), [LONG], ["u", "U"]],
                  [["u", "u"], ["a", "b", "a"], users(101), [LONG + "n"], [""], ["a b"]])
     out += [one(acl_dropped(n)) for n in (0, 2**62 - 1, 2**62)] + [one(deleted(n)) for n in (0, 2**62 - 1, 2**62)]
-    out += heads(order) + filled_texts(order, "algorithm") + optional_texts(order, "mode") + optional_texts(order, "name")
+    out += heads(order) + texts(order, "algorithm") + optional_texts(order, "mode") + optional_texts(order, "name")
     out += edges(order, "bits", [1, 32767], [0, 32768]) + edges(order, "expiration", [0, END - 1], [END])
     out += edges(order, "state", [b"\1" + u64(2**62 - 1), b"\2\0", b"\2\1", b"\2\2"],
                  [b"\1" + u64(2**62), b"\2\3", b"\3", b"\1", b"\2", b"\0\0", b""])

@@ -1,4 +1,4 @@
--- The changes of a base give no ids.
+-- The changes of a snapshot give no ids.
 use Rattle.std.proofs.Common.{◌≡◌, ℕ, ◌<◌, Bool, true, ltb, List, [], ◌∷◌, map, Option, Some, None, refl, arith, inl, inr}
 use Rattle.std.specs.Prelude.{find}
 use Rattle.std.specs.List.{list_all}
@@ -20,24 +20,24 @@ use Rattle.kms_record.specs.Rising.{Rises, IsRising}
 use Rattle.kms_record.proofs.RisingLaws.{given_below}
 
 module _ {X : Type 0} (id_of : X → Id) where
-  given_at : (tag n : ℕ) (id : Id) (p : X → Bool) (rows : List X) → Rises tag n (map id_of rows) → has (find (λ x. is_id id (id_of x)) rows) p ≡ true → id.0 < id_number tag n
+  pub given_at : (tag n : ℕ) (id : Id) (p : X → Bool) (rows : List X) → Rises tag n (map id_of rows) → has (find (λ x. is_id id (id_of x)) rows) p ≡ true → id.0 < id_number tag n
   given_at tag n id p [] r h = absurd cc
   given_at tag n id p (x ∷ xs) r h = elim (cases_Bool (is_id id (id_of x))) [
     | inl t ↦ omega (arith, given_below tag n (id_of x) r.0, eqb-true (id_of x).0 id.0 t)
     | inr f ↦ given_at tag n id p xs r.2 (rw f at h)
   ]
 
--- ---- a base gives no ids
+-- ---- a snapshot gives no ids
 
-none_given : (s : State) (id : Id) → id.0 < id_number s.tag s.ids → ids_with id s ≡ s.ids
+pub none_given : (s : State) (id : Id) → id.0 < id_number s.tag s.ids → ids_with id s ≡ s.ids
 none_given s id lt = rw (ne_eqb id.0 (id_number s.tag s.ids) (λ e. absurd (omega (arith, e, lt)))) refl
 
-new_given : (s : State) (own : List Id) (count : ℕ) → is_new Base s own count ≡ true → id_number s.tag count < id_number s.tag s.ids
+pub new_given : (s : State) (own : List Id) (count : ℕ) → is_new Base s own count ≡ true → id_number s.tag count < id_number s.tag s.ids
 new_given s own count h =
     let front : (ltb count s.ids ≡ true) × (list_all (λ (other : Id). ltb other.0 (id_number s.tag count)) own ≡ true) = and_parts _ _ (and_parts _ _ h).0 in
     omega (arith, ltb-true count s.ids front.0)
 
-quota_gives_none : (project : List ℕ) (limits : Option QuotaLimits) (s : State) → (after_effect (quota_effect project limits) s).ids ≡ s.ids
+pub quota_gives_none : (project : List ℕ) (limits : Option QuotaLimits) (s : State) → (after_effect (quota_effect project limits) s).ids ≡ s.ids
 quota_gives_none project None s = refl
 quota_gives_none project (Some limits) s = refl
 

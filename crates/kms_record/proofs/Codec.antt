@@ -76,7 +76,7 @@ passing_codec {A} {spell} {F} {read} test codec = record {
   again = λ x rest f. rw (codec.again x rest f.0, f.1) refl;
 }
 
--- one value, and another behind it
+-- one value, and another after it
 pub both_codec : {A B : Type 0} {s : A → List ℕ} {t : B → List ℕ} {F : A → Type 0} {G : B → Type 0} {first : Read A} {second : Read B} → IsCodec s F first → IsCodec t G second → IsCodec (λ p. s p.0 ++ t p.1) (λ p. F p.0 × G p.1) (both first second)
 both_codec {A} {B} {s} {t} {F} {G} {first} {second} one two = record {
   takes = λ bytes x fits e.

@@ -4,11 +4,11 @@ use Rattle.std.specs.Str.{IsUtf8}
 use Rattle.kms_world.specs.Times.{end_of_times}
 use Rattle.kms_record.specs.declared.consumer.ConsumerAdded.{ConsumerAdded}
 use Rattle.kms_record.specs.declared.consumer.ConsumerDropped.{ConsumerDropped}
-use Rattle.kms_record.specs.Fields.{u64_bytes, text_bytes, IsFilled}
+use Rattle.kms_record.specs.Fields.{u64_bytes, text_bytes, IsShort}
 use Rattle.kms_record.specs.Consumer.{consumer_added_bytes, IsConsumerAddedInRange, IsConsumerAddedTyped, consumer_dropped_bytes, IsConsumerDroppedInRange, IsConsumerDroppedTyped}
 use Rattle.kms_record.specs.ConsumerReading.{ConsumerAddedFields, consumer_added_with, consumer_added_fields_at, consumer_added_at, ConsumerDroppedFields, consumer_dropped_with, consumer_dropped_fields_at, consumer_dropped_at}
 use Rattle.kms_record.proofs.Codec.{IsCodec, refitted, respelled, both_codec, made_codec}
-use Rattle.kms_record.proofs.FieldLaws.{id_codec, time_codec, filled_text_codec}
+use Rattle.kms_record.proofs.FieldLaws.{id_codec, time_codec, short_text_codec}
 
 -- ---- ConsumerAdded
 
@@ -19,10 +19,10 @@ abbrev consumer_added_spelled : ConsumerAddedFields → List ℕ
 consumer_added_spelled (container, (name, (url, created))) = u64_bytes container ++ (text_bytes name ++ (text_bytes url ++ u64_bytes created))
 
 abbrev ConsumerAddedFit : ConsumerAddedFields → Type 0
-ConsumerAddedFit (container, (name, (url, created))) = (container < 2 ^ 62) × (((IsFilled name) × (IsUtf8 name)) × (((IsFilled url) × (IsUtf8 url)) × (created < end_of_times)))
+ConsumerAddedFit (container, (name, (url, created))) = (container < 2 ^ 62) × (((IsShort name) × (IsUtf8 name)) × (((IsShort url) × (IsUtf8 url)) × (created < end_of_times)))
 
 consumer_added_fields_codec : IsCodec consumer_added_spelled ConsumerAddedFit consumer_added_fields_at
-consumer_added_fields_codec = both_codec id_codec (both_codec filled_text_codec (both_codec filled_text_codec time_codec))
+consumer_added_fields_codec = both_codec id_codec (both_codec short_text_codec (both_codec short_text_codec time_codec))
 
 consumer_added_admitted : (put : ConsumerAdded) → ConsumerAddedFit (consumer_added_fields put) → IsConsumerAddedInRange put × IsConsumerAddedTyped put
 consumer_added_admitted put (container, (name, (url, created))) = (record { container = container; name = name.0; url = url.0; created = created }, record { name = name.1; url = url.1 })
@@ -47,10 +47,10 @@ abbrev consumer_dropped_spelled : ConsumerDroppedFields → List ℕ
 consumer_dropped_spelled (container, (name, url)) = u64_bytes container ++ (text_bytes name ++ text_bytes url)
 
 abbrev ConsumerDroppedFit : ConsumerDroppedFields → Type 0
-ConsumerDroppedFit (container, (name, url)) = (container < 2 ^ 62) × (((IsFilled name) × (IsUtf8 name)) × ((IsFilled url) × (IsUtf8 url)))
+ConsumerDroppedFit (container, (name, url)) = (container < 2 ^ 62) × (((IsShort name) × (IsUtf8 name)) × ((IsShort url) × (IsUtf8 url)))
 
 consumer_dropped_fields_codec : IsCodec consumer_dropped_spelled ConsumerDroppedFit consumer_dropped_fields_at
-consumer_dropped_fields_codec = both_codec id_codec (both_codec filled_text_codec filled_text_codec)
+consumer_dropped_fields_codec = both_codec id_codec (both_codec short_text_codec short_text_codec)
 
 consumer_dropped_admitted : (put : ConsumerDropped) → ConsumerDroppedFit (consumer_dropped_fields put) → IsConsumerDroppedInRange put × IsConsumerDroppedTyped put
 consumer_dropped_admitted put (container, (name, url)) = (record { container = container; name = name.0; url = url.0 }, record { name = name.1; url = url.1 })

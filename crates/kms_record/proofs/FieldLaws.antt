@@ -9,8 +9,8 @@ use Rattle.std.proofs.lemmas.Nat.{be_bytes_2, be_bytes_4, be_bytes_8, from_be_by
 use Rattle.std.proofs.lemmas.Str.{IsUtf8-from_is_utf8, is_utf8-from_IsUtf8}
 use Rattle.kms_world.specs.Name.{is_name}
 use Rattle.kms_world.specs.Times.{end_of_times}
-use Rattle.kms_record.specs.Fields.{u16_bytes, u32_bytes, u64_bytes, text_bytes, option_bytes, token_bytes, mark_bytes, IsShort, IsFilled, IsBitLength, IsToken}
-use Rattle.kms_record.specs.Reading.{◌>>=◌, Read, taken, byte_at, number_at, id_at, time_at, bit_length_at, text_at, short_text_at, filled_text_at, long_text_at, token_at, name_at, mark_at, option_at}
+use Rattle.kms_record.specs.Fields.{u16_bytes, u32_bytes, u64_bytes, text_bytes, option_bytes, token_bytes, mark_bytes, IsShort, IsBitLength, IsToken}
+use Rattle.kms_record.specs.Reading.{◌>>=◌, Read, taken, byte_at, number_at, id_at, time_at, bit_length_at, text_at, short_text_at, long_text_at, token_at, name_at, mark_at, option_at}
 use Rattle.kms_record.proofs.Codec.{IsBytes, IsBytes-drop, IsBytes-take, IsBytes-rest, bind_some, passed, not_refused, found, some_is, Takes, Takes-then, IsCodec, refitted, passing_codec}
 
 pub both_true : (a b : Bool) → (a && b) ≡ true → (a ≡ true) × (b ≡ true)
@@ -138,14 +138,6 @@ name_codec = refitted (passing_codec is_name text_codec) (λ t f. f.1) (λ t h. 
 
 pub short_name_codec : IsCodec text_bytes (λ t. (length t ≤ 64) × (is_name t ≡ true)) name_at
 short_name_codec = refitted name_codec (λ t h. (name_is_short t h, h)) (λ t h. h.1)
-
-pub filled_text_codec : IsCodec text_bytes (λ t. IsFilled t × IsUtf8 t) filled_text_at
-filled_text_codec = refitted (passing_codec (λ t. leb 1 (length t) && leb (length t) 255 && is_utf8 t) text_codec)
-    (λ t f.
-    let b = both_true (leb 1 (length t) && leb (length t) 255) (is_utf8 t) f.1 in
-    let c = both_true (leb 1 (length t)) (leb (length t) 255) b.0 in
-    ((leb-true _ _ c.0, leb-true _ _ c.1), IsUtf8-from_is_utf8 t b.1))
-    (λ t b. (omega (arith, b.0.1), rw (le-leb _ _ b.0.0, le-leb _ _ b.0.1, is_utf8-from_IsUtf8 t b.1) refl))
 
 -- ---- tokens and wrapped keys
 

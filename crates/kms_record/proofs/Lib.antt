@@ -6,10 +6,12 @@ pub mod ConsumerLaws
 pub mod ContainerLaws
 pub mod FieldLaws
 pub mod GrammarLaws
+pub mod IdLimitLaws
 pub mod JoinedLaws
 pub mod KeptLaws
 pub mod KeptLists
 pub mod KeyLaws
+pub mod KeyNumberLaws
 pub mod ListLaws
 pub mod ManyLaws
 pub mod MemberLaws

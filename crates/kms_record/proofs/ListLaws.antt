@@ -106,7 +106,7 @@ list_codec {A} {spell} {F} {read} codec = refitted (counted_codec list_count_cod
 
 -- ---- alternatives
 
--- an alternative's reader reads what stands behind its number
+-- an alternative's reader reads what stands after its number
 pub record IsAlternative {A : Type 0} (spell : A → List ℕ) (F : A → Type 0) (alternative : ℕ × Read A) : Type 0 where
   pub takes : (bytes : List ℕ) (x : A × List ℕ) → IsBytes bytes → alternative.1 bytes ≡ Some x → Takes (alternative.0 ∷ bytes) (spell x.0) x.1 × F x.0
 
@@ -141,7 +141,7 @@ made_alternative {A} {B} {spell} {F} {read} {inner} {G} n make codec same fits_t
       (record { parts = rw (same a.0.0) (ap (λ (w : List ℕ). n ∷ w) t.0.parts); rest_fits = t.0.rest_fits }, fits_too a.0.0 t.1);
 }
 
--- so is a value that is spelled with nothing behind the number
+-- so is a value that is spelled with nothing after the number
 pub plain_alternative : {A : Type 0} {spell : A → List ℕ} {F : A → Type 0} (n : ℕ) (value : A) → spell value ≡ n ∷ [] → F value → IsAlternative spell F (n, nothing_at value)
 plain_alternative {A} {spell} {F} n value same fits_too = record {
   takes = λ bytes x fits e.

@@ -1,4 +1,4 @@
--- Reading so many values one behind the other, as a loop does.
+-- Reading so many values one after the other, as a loop does.
 use Rattle.std.proofs.Common.{◌≡◌, ℕ, suc, ◌-◌, ◌+◌, ◌≤◌, ◌<◌, List, [], ◌∷◌, ◌++◌, Option, Some, None, refl, sym, ap, ◌∙◌, append_assoc, arith}
 use Rattle.std.proofs.lemmas.List.{append-nil}
 use Rattle.kms_record.specs.declared.read_error.ReadError.{ReadError}

@@ -7,13 +7,13 @@ use Rattle.kms_record.specs.Fields.{u64_bytes, list_bytes}
 use Rattle.kms_record.specs.Metadata.{pair_bytes, IsPairInRange, ArePairsInRange, IsPairTyped, ArePairsTyped, metadata_put_bytes, IsMetadataPutInRange, IsMetadataPutTyped}
 use Rattle.kms_record.specs.MetadataReading.{pair_at, are_ascending, pairs_at, MetadataPutFields, metadata_put_with, metadata_put_fields_at, metadata_put_at}
 use Rattle.kms_record.proofs.Codec.{IsCodec, refitted, respelled, both_codec, made_codec, passing_codec}
-use Rattle.kms_record.proofs.FieldLaws.{id_codec, time_codec, short_text_codec, filled_text_codec}
+use Rattle.kms_record.proofs.FieldLaws.{id_codec, time_codec, short_text_codec}
 use Rattle.kms_record.proofs.ListLaws.{list_codec}
 use Rattle.kms_record.proofs.PairwiseLaws.{parted, joined, pairwise_at, pairwise_from_places}
 
 pair_codec : IsCodec pair_bytes (λ p. IsPairInRange p × IsPairTyped p) pair_at
 unfolding pair_bytes pair_at
-pair_codec = refitted (both_codec filled_text_codec short_text_codec)
+pair_codec = refitted (both_codec short_text_codec short_text_codec)
     (λ p f. (record { key = f.0.0; value = f.1.0 }, record { key = f.0.1; value = f.1.1 }))
     (λ p f. ((f.0.key, f.1.key), (f.0.value, f.1.value)))
 

@@ -8,12 +8,12 @@ use Rattle.kms_record.specs.declared.order.OrderPut.{OrderPut}
 use Rattle.kms_record.specs.declared.order.OrderPutState.{OrderPutState}
 use Rattle.kms_record.specs.declared.order.OrderPutState.TheVariants.{Pending, Active, Error}
 use Rattle.kms_record.specs.Reading.{byte_at}
-use Rattle.kms_record.specs.Fields.{u16_bytes, u64_bytes, text_bytes, option_bytes, IsShort, IsFilled, IsBitLength}
+use Rattle.kms_record.specs.Fields.{u16_bytes, u64_bytes, text_bytes, option_bytes, IsShort, IsBitLength}
 use Rattle.kms_record.specs.Order.{state_bytes, IsStateInRange, order_put_bytes, IsOrderPutInRange, IsOrderPutTyped}
 use Rattle.kms_record.specs.Reading.{alternatives_at}
 use Rattle.kms_record.specs.OrderReading.{state_at, OrderPutFields, order_put_with, order_put_fields_at, order_put_at}
 use Rattle.kms_record.proofs.Codec.{IsCodec, refitted, respelled, both_codec, made_codec}
-use Rattle.kms_record.proofs.FieldLaws.{id_codec, time_codec, bit_length_codec, short_name_codec, filled_text_codec, optional_text_codec, option_codec}
+use Rattle.kms_record.proofs.FieldLaws.{id_codec, time_codec, bit_length_codec, short_name_codec, short_text_codec, optional_text_codec, option_codec}
 use Rattle.kms_record.proofs.CodeLaws.{cause_codec}
 use Rattle.kms_record.proofs.ListLaws.{alternatives_codec, made_alternative, plain_alternative}
 
@@ -42,10 +42,10 @@ abbrev order_put_spelled : OrderPutFields → List ℕ
 order_put_spelled (id, (project, (creator, (created, (updated, (algorithm, (bit_length, (mode, (name, (expiration, state)))))))))) = u64_bytes id ++ (text_bytes project ++ (text_bytes creator ++ (u64_bytes created ++ (u64_bytes updated ++ (text_bytes algorithm ++ (u16_bytes bit_length ++ (option_bytes text_bytes mode ++ (option_bytes text_bytes name ++ (option_bytes u64_bytes expiration ++ state_bytes state)))))))))
 
 abbrev OrderPutFit : OrderPutFields → Type 0
-OrderPutFit (id, (project, (creator, (created, (updated, (algorithm, (bit_length, (mode, (name, (expiration, state)))))))))) = (id < 2 ^ 62) × (((length project ≤ 64) × (is_name project ≡ true)) × (((length creator ≤ 64) × (is_name creator ≡ true)) × ((created < end_of_times) × ((updated < end_of_times) × (((IsFilled algorithm) × (IsUtf8 algorithm)) × ((IsBitLength bit_length) × (((IfSome mode IsShort) × (IfSome mode IsUtf8)) × (((IfSome name IsShort) × (IfSome name IsUtf8)) × ((IfSome expiration (λ t. t < end_of_times)) × (IsStateInRange state))))))))))
+OrderPutFit (id, (project, (creator, (created, (updated, (algorithm, (bit_length, (mode, (name, (expiration, state)))))))))) = (id < 2 ^ 62) × (((length project ≤ 64) × (is_name project ≡ true)) × (((length creator ≤ 64) × (is_name creator ≡ true)) × ((created < end_of_times) × ((updated < end_of_times) × (((IsShort algorithm) × (IsUtf8 algorithm)) × ((IsBitLength bit_length) × (((IfSome mode IsShort) × (IfSome mode IsUtf8)) × (((IfSome name IsShort) × (IfSome name IsUtf8)) × ((IfSome expiration (λ t. t < end_of_times)) × (IsStateInRange state))))))))))
 
 order_put_fields_codec : IsCodec order_put_spelled OrderPutFit order_put_fields_at
-order_put_fields_codec = both_codec id_codec (both_codec short_name_codec (both_codec short_name_codec (both_codec time_codec (both_codec time_codec (both_codec filled_text_codec (both_codec bit_length_codec (both_codec optional_text_codec (both_codec optional_text_codec (both_codec (option_codec time_codec) state_codec)))))))))
+order_put_fields_codec = both_codec id_codec (both_codec short_name_codec (both_codec short_name_codec (both_codec time_codec (both_codec time_codec (both_codec short_text_codec (both_codec bit_length_codec (both_codec optional_text_codec (both_codec optional_text_codec (both_codec (option_codec time_codec) state_codec)))))))))
 
 order_put_admitted : (put : OrderPut) → OrderPutFit (order_put_fields put) → IsOrderPutInRange put × IsOrderPutTyped put
 order_put_admitted put (id, (project, (creator, (created, (updated, (algorithm, (bit_length, (mode, (name, (expiration, state)))))))))) = (record { id = id; project = project.0; creator = creator.0; created = created; updated = updated; algorithm = algorithm.0; bit_length = bit_length; mode = mode.0; name = name.0; expiration = expiration; state = state }, record { project = project.1; creator = creator.1; algorithm = algorithm.1; mode = mode.1; name = name.1 })

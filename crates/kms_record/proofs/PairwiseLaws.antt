@@ -1,4 +1,4 @@
--- Lists of which each value passes a test with each one behind it.
+-- Lists of which each value passes a test with each one after it.
 use Rattle.std.proofs.Common.{◌≡◌, ℕ, zero, suc, ◌+◌, ◌-◌, ◌<◌, ◌≤◌, Bool, true, false, ◌&&◌, cond, List, [], ◌∷◌, ◌++◌, length, get_or, Option, Some, None, refl, sym, ap, ◌∙◌, append_assoc, arith, inl, inr, ◌⊎◌}
 use Rattle.std.specs.List.{list_all, AllByRecursion}
 use Rattle.std.proofs.lemmas.List.Folds.{list_all-append}
@@ -67,7 +67,7 @@ pairwise_push {A} test (x ∷ xs) y h k =
     (list_all-append (test x) xs (y ∷ []) ∙ and_true (list_all (test x) xs) (list_all (test x) (y ∷ [])) a.0 last)
     (pairwise_push test xs y a.1 b.1)
 
--- a list that goes on behind a value that fails is refused
+-- a list that goes on after a value that fails is refused
 and_false : (a : Bool) → (a && false) ≡ false
 and_false true = refl
 and_false false = refl

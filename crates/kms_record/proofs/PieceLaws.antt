@@ -14,7 +14,7 @@ put_is_short (Some change) r = omega (arith, change_is_short change r, most_is_f
 pub base_is_short : (change : BaseChange) → IsBaseInRange change → length (base_bytes change) < 65536
 base_is_short change r = put_is_short (as_change change) r
 
--- the room has the first bytes, and behind them what it had
+-- the room has the first bytes, and after them what it had
 pub record IsCopied (bytes before now : List ℕ) (at count : ℕ) : Type 0 where
   pub copied : now ≡ take at bytes ++ drop at before
   pub within : at ≤ count
@@ -42,7 +42,7 @@ more_copied bytes before now part at more count k c is le fits room k_is =
       within = le;
     }
 
--- a window that isn't behind the end has some bytes
+-- a window that isn't after the end has some bytes
 pub window_has_some : (from at more count len : ℕ) (bytes piece : List ℕ) → piece ≡ take 1024 (drop (from + at) bytes) → count ≤ length bytes - from → at < count → more ≡ min (length piece) (count - at) → 0 < more
 window_has_some from at more count len bytes piece is le lt m =
     omega (arith, le, lt, m, ap length is, length-take 1024 (drop (from + at) bytes), length-drop (from + at) bytes)

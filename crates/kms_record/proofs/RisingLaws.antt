@@ -55,7 +55,7 @@ with_step false n = omega arith
 ids_more : (id : Id) (s : State) → s.ids ≤ ids_with id s
 ids_more id s = with_step (eqb id.0 (id_number s.tag s.ids)) s.ids
 
-ids_next : (s : State) (count : ℕ) → count ≡ s.ids → ids_with (id_at s.tag count) s ≡ s.ids + 1
+pub ids_next : (s : State) (count : ℕ) → count ≡ s.ids → ids_with (id_at s.tag count) s ≡ s.ids + 1
 ids_next s count e = rw (eq-eqb (id_number s.tag count) (id_number s.tag s.ids) (ap (id_number s.tag) e)) refl
 
 -- ---- rows

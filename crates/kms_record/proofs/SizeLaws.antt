@@ -88,7 +88,7 @@ flat_map_is_short {A} spell P most each (x ∷ xs) all =
 
 pair_is_short : (pair : List ℕ × List ℕ) → IsPairInRange pair → length (pair_bytes pair) ≤ 514
 unfolding pair_bytes
-pair_is_short pair r = omega (arith, length-append (text_bytes pair.0) (text_bytes pair.1), length-text pair.0, length-text pair.1, r.key.1, r.value)
+pair_is_short pair r = omega (arith, length-append (text_bytes pair.0) (text_bytes pair.1), length-text pair.0, length-text pair.1, r.key, r.value)
 
 pairs_are_short : (pairs : List (List ℕ × List ℕ)) → ArePairsInRange pairs → length (u8_bytes (length pairs)) + length (flat_map pair_bytes pairs) ≤ 51401
 pairs_are_short pairs r =
@@ -151,11 +151,11 @@ container_put_is_short put r = simp length-append (omega (arith, length-u64 put.
 
 consumer_added_is_short : (put : ConsumerAdded) → IsConsumerAddedInRange put → length (consumer_added_bytes put) ≤ 530
 unfolding consumer_added_bytes
-consumer_added_is_short put r = simp length-append (omega (arith, length-u64 put.container, length-text put.name, r.name.1, length-text put.url, r.url.1, length-u64 put.created))
+consumer_added_is_short put r = simp length-append (omega (arith, length-u64 put.container, length-text put.name, r.name, length-text put.url, r.url, length-u64 put.created))
 
 consumer_dropped_is_short : (put : ConsumerDropped) → IsConsumerDroppedInRange put → length (consumer_dropped_bytes put) ≤ 522
 unfolding consumer_dropped_bytes
-consumer_dropped_is_short put r = simp length-append (omega (arith, length-u64 put.container, length-text put.name, r.name.1, length-text put.url, r.url.1))
+consumer_dropped_is_short put r = simp length-append (omega (arith, length-u64 put.container, length-text put.name, r.name, length-text put.url, r.url))
 
 acl_put_is_short : (put : AclPut) → IsAclPutInRange put → length (acl_put_bytes put) ≤ 6626
 unfolding acl_put_bytes
@@ -163,7 +163,7 @@ acl_put_is_short put r = simp length-append (omega (arith, length-u64 put.target
 
 order_put_is_short : (put : OrderPut) → IsOrderPutInRange put → length (order_put_bytes put) ≤ 949
 unfolding order_put_bytes
-order_put_is_short put r = simp length-append (omega (arith, length-u64 put.id, length-text put.project, r.project, length-text put.creator, r.creator, length-u64 put.created, length-u64 put.updated, length-text put.algorithm, r.algorithm.1, length-u16 put.bit_length, optional_text_is_short put.mode r.mode, optional_text_is_short put.name r.name, optional_u64_is_short put.expiration, state_is_short put.state))
+order_put_is_short put r = simp length-append (omega (arith, length-u64 put.id, length-text put.project, r.project, length-text put.creator, r.creator, length-u64 put.created, length-u64 put.updated, length-text put.algorithm, r.algorithm, length-u16 put.bit_length, optional_text_is_short put.mode r.mode, optional_text_is_short put.name r.name, optional_u64_is_short put.expiration, state_is_short put.state))
 
 quota_put_is_short : (put : QuotaPut) → IsQuotaPutInRange put → length (quota_put_bytes put) ≤ 87
 unfolding quota_put_bytes

@@ -51,7 +51,7 @@ drop-min m b =
       | inr le ↦ let e : min m (length b) ≡ length b = omega (arith, le) in rw e (drop_all (length b) b (omega arith) ∙ sym (drop_all m b le))
     ]
 
--- what is put into the free part of a window, of which the bytes behind those that go unseen are cut
+-- what is put into the free part of a window, of which the bytes after those that go unseen are cut
 pub put_shows : (n unseen count passed more k : ℕ) (bytes piece ys : List ℕ) → count ≤ n → length bytes ≡ n → passed ≡ min unseen (length piece)
     → more ≡ min (length (take (length piece - passed) (drop passed piece))) (n - count) → ys ≡ take more (take (length piece - passed) (drop passed piece))
     → (let now : Shown = record { unseen = unseen - passed; bytes = take (count + more) (put_mid count k bytes ys) } in now ≡ shown_in n (record { unseen = unseen; bytes = take count bytes }) piece)

@@ -28,7 +28,7 @@ use Rattle.kms_record.specs.declared.quota.QuotaLimits.{QuotaLimits}
 use Rattle.kms_record.specs.declared.quota.QuotaLimit.{QuotaLimit}
 use Rattle.kms_record.specs.declared.quota.QuotaLimit.TheVariants.{Unlimited, AtMost}
 use Rattle.kms_record.specs.SecretPut.{put_of}
-use Rattle.kms_record.specs.Grammar.{change_bytes, IsChangeInRange}
+use Rattle.kms_record.specs.Grammar.{change_bytes, IsChange, IsChangeInRange}
 
 -- the count of an id, in its last 62 bits
 abbrev pub count_of : Id → ℕ
@@ -117,6 +117,10 @@ abbrev pub IsPutInRange : Option Change → Type 0
 IsPutInRange None = ⊥
 IsPutInRange (Some change) = IsChangeInRange change
 
+abbrev pub IsPut : Option Change → Type 0
+IsPut None = ⊥
+IsPut (Some change) = IsChange change
+
 -- its one spelling
 abbrev pub base_bytes : BaseChange → List ℕ
 base_bytes change = bytes_of (as_change change)
@@ -124,3 +128,7 @@ base_bytes change = bytes_of (as_change change)
 -- there is such a change, and its numbers and lengths are in their ranges
 abbrev pub IsBaseInRange : BaseChange → Type 0
 IsBaseInRange change = IsPutInRange (as_change change)
+
+-- there is such a change, and it is one of the grammar
+abbrev pub IsBase : BaseChange → Type 0
+IsBase change = IsPut (as_change change)

@@ -75,9 +75,5 @@ IsShort text = length text ≤ 255
 abbrev pub IsBitLength : ℕ → Type 0
 IsBitLength n = (1 ≤ n) × (n ≤ 32767)
 
--- a text that isn't empty
-abbrev pub IsFilled : List ℕ → Type 0
-IsFilled text = (1 ≤ length text) × (length text ≤ 255)
-
 abbrev pub IsToken : List ℕ → Type 0
 IsToken token = (100 ≤ length token) × (length token ≤ 26764)

@@ -1,4 +1,4 @@
--- Steps and snapshots as bytes. Each has one spelling, and nothing stands behind it.
+-- Steps and snapshots as bytes. Each has one spelling, and nothing stands after it.
 use Rattle.std.specs.Prelude.{◌≡◌, ℕ, ◌<◌, ◌≤◌, ◌^◌, List, ◌∷◌, ◌++◌, length}
 use Rattle.std.specs.List.{flat_map, AllByRecursion}
 use Rattle.kms_record.specs.declared.change.Change.{Change}

@@ -42,7 +42,7 @@ step_at bytes = do
   count ← number_at w16 bytes
   if count.0 == 0 then None else many change_at count.0 count.1
 
--- the value, where nothing stands behind it
+-- the value, where nothing stands after it
 abbrev pub alone : {A : Type 0} → Option (A × List ℕ) → Option A
 alone {A} read = read >>= λ x. if length x.1 == 0 then Some x.0 else None
 

@@ -28,7 +28,7 @@ pub record Kept : Type 0 where
   pub state : State
   pub keys : List WrappedKey
 
--- where changes stand: in records, or in a base
+-- where changes stand: in records, or in a snapshot
 pub data Part : Type 0 where
   Records : Part
   Base : Part
@@ -73,8 +73,8 @@ is_under project number row = bytes_eq project row.project && has row.payload (�
 
 -- ---- whether a change applies
 
--- The id of a new row. In records it is the count of ids given. In a base it is below that, greater than every earlier id
--- of its own kind of row, and no row of another kind has it.
+-- The id of a new row. In records it is the count of ids given. In a snapshot it is below that, greater than every
+-- earlier id of its own kind of row, and no row of another kind has it.
 abbrev pub is_new : Part → State → (own : List Id) → (count : ℕ) → Bool
 is_new Records s own count = (count == s.ids) && nat_lt count (2 ^ 62)
 is_new Base s own count = nat_lt count s.ids && list_all (λ (i : Id). nat_lt i.0 (id_number s.tag count)) own && not (is_taken s (id_at s.tag count))
@@ -109,11 +109,11 @@ names_id id order_states.Pending = false
 names_id id (order_states.Active other) = is_id id other
 names_id id (order_states.Error cause) = false
 
--- an active state names an id that was given and that no other order names
+-- an active state names an id that was given, or that this change gives, and that no other order names
 abbrev pub is_named_once : State → (order : ℕ) → OrderPutState → Bool
 is_named_once s order put_states.Pending = true
 is_named_once s order (put_states.Active id) =
-    nat_lt id s.ids && list_all (λ (r : OrderRow). not (names_id (id_at s.tag id) r.state) || is_id (id_at s.tag order) r.id) s.orders
+    (nat_lt id s.ids || (id == order)) && list_all (λ (r : OrderRow). not (names_id (id_at s.tag id) r.state) || is_id (id_at s.tag order) r.id) s.orders
 is_named_once s order (put_states.Error cause) = true
 
 -- quotas are always set; a row goes where it is there

@@ -6,12 +6,14 @@ pub mod Consumer
 pub mod ConsumerReading
 pub mod Container
 pub mod ContainerReading
+pub mod Deletion
 pub mod Fields
 pub mod Grammar
 pub mod GrammarReading
 pub mod Joined
 pub mod Kept
 pub mod Key
+pub mod KeyNumbers
 pub mod KeyReading
 pub mod Metadata
 pub mod MetadataReading

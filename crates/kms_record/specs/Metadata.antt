@@ -5,14 +5,14 @@ use Rattle.std.specs.Str.{IsUtf8}
 use Rattle.kms_world.specs.Pairs.{Ascends}
 use Rattle.kms_world.specs.Times.{end_of_times}
 use Rattle.kms_record.specs.declared.metadata.MetadataPut.{MetadataPut}
-use Rattle.kms_record.specs.Fields.{u64_bytes, text_bytes, list_bytes, IsShort, IsFilled}
+use Rattle.kms_record.specs.Fields.{u64_bytes, text_bytes, list_bytes, IsShort}
 
 -- a key and its value
 unfoldable pub pair_bytes : List ℕ × List ℕ → List ℕ
 pair_bytes pair = text_bytes pair.0 ++ text_bytes pair.1
 
 pub record IsPairInRange (pair : List ℕ × List ℕ) : Type 0 where
-  pub key : IsFilled pair.0
+  pub key : IsShort pair.0
   pub value : IsShort pair.1
 
 pub record ArePairsInRange (pairs : List (List ℕ × List ℕ)) : Type 0 where

@@ -2,12 +2,12 @@
 use Rattle.std.specs.Prelude.{ℕ, Bool, List}
 use Rattle.kms_world.specs.Pairs.{is_below}
 use Rattle.kms_record.specs.declared.metadata.MetadataPut.{MetadataPut}
-use Rattle.kms_record.specs.Reading.{Read, id_at, time_at, short_text_at, filled_text_at, both, made_of, list_at, passing, pairwise}
+use Rattle.kms_record.specs.Reading.{Read, id_at, time_at, short_text_at, both, made_of, list_at, passing, pairwise}
 
 unfoldable pub pair_at : Read (List ℕ × List ℕ)
-pair_at = both filled_text_at short_text_at
+pair_at = both short_text_at short_text_at
 
--- each key comes before all behind it
+-- each key comes before all after it
 abbrev pub are_ascending : List (List ℕ × List ℕ) → Bool
 are_ascending = pairwise (λ p q. is_below p.0 q.0)
 

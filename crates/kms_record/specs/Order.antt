@@ -6,7 +6,7 @@ use Rattle.kms_world.specs.Times.{end_of_times}
 use Rattle.kms_record.specs.declared.order.OrderPut.{OrderPut}
 use Rattle.kms_record.specs.declared.order.OrderPutState.{OrderPutState}
 use Rattle.kms_record.specs.declared.order.OrderPutState.TheVariants.{Pending, Active, Error}
-use Rattle.kms_record.specs.Fields.{u8_bytes, u16_bytes, u64_bytes, text_bytes, option_bytes, cause_number, IsShort, IsFilled, IsBitLength}
+use Rattle.kms_record.specs.Fields.{u8_bytes, u16_bytes, u64_bytes, text_bytes, option_bytes, cause_number, IsShort, IsBitLength}
 
 -- 0; 1 and the count of the secret's id; or 2 and the cause
 abbrev pub state_bytes : OrderPutState → List ℕ
@@ -34,7 +34,7 @@ pub record IsOrderPutInRange (put : OrderPut) : Type 0 where
   pub creator : length put.creator ≤ 64
   pub created : put.created < end_of_times
   pub updated : put.updated < end_of_times
-  pub algorithm : IsFilled put.algorithm
+  pub algorithm : IsShort put.algorithm
   pub bit_length : IsBitLength put.bit_length
   pub mode : IfSome put.mode IsShort
   pub name : IfSome put.name IsShort

@@ -1,4 +1,4 @@
--- How bytes are read from their front, as functions on lists: Some value and the bytes behind it, or None. Only private
+-- How bytes are read from their front, as functions on lists: Some value and the bytes after it, or None. Only private
 -- contracts name these. What they read is said by the grammar, which the public contracts name.
 use Rattle.std.specs.Prelude.{ℕ, zero, suc, ◌^◌, ◌≡◌, Bool, true, false, List, [], ◌∷◌, length, take, drop, Option, Some, None, Result, Ok, Err, option_and_then, ◌==◌, ◌&&◌, nat_lt, nat_le, if◌then◌else◌}
 use Rattle.std.specs.Int.{Width, w16, w32, w64, byte_len, from_be_bytes}
@@ -77,9 +77,6 @@ short_text_at = passing (λ t. nat_le (length t) 255 && is_utf8 t) text_at
 abbrev pub name_at : Read (List ℕ)
 name_at = passing is_name text_at
 
-abbrev pub filled_text_at : Read (List ℕ)
-filled_text_at = passing (λ t. nat_le 1 (length t) && nat_le (length t) 255 && is_utf8 t) text_at
-
 unfoldable pub long_text_at : Read (List ℕ)
 long_text_at bytes = do
   n ← number_at w32 bytes
@@ -144,14 +141,14 @@ option_at {A} read bytes = do
   mark ← mark_at bytes
   if mark.0 then (read mark.1 >>= λ x. Some (Some x.0, x.1)) else Some (None, mark.1)
 
--- one value, and another behind it
+-- one value, and another after it
 abbrev pub both : {A B : Type 0} → Read A → Read B → Read (A × B)
 both {A} {B} first second bytes = do
   a ← first bytes
   b ← second a.1
   Some ((a.0, b.0), b.1)
 
--- so many values, one behind the other
+-- so many values, one after the other
 unfoldable pub many : {A : Type 0} → Read A → ℕ → Read (List A)
 many {A} read zero bytes = Some ([], bytes)
 many {A} read (suc n) bytes = do
@@ -183,7 +180,7 @@ list_at {A} read bytes = do
   n ← list_count_at bytes
   many read n.0 n.1
 
--- each value passes a test with each one behind it
+-- each value passes a test with each one after it
 abbrev pub pairwise : {A : Type 0} → (A → A → Bool) → List A → Bool
 pairwise {A} test [] = true
 pairwise {A} test (x ∷ xs) = list_all (test x) xs && pairwise test xs

@@ -1,16 +1,16 @@
 // The rows of a snapshot to bytes, a piece at a time and without memory.
 ghost use Rattle.std.specs.Prelude.{◌≡◌, ◌≤◌, ◌<◌, ◌^◌, ◌+◌, ◌-◌, length, map, take, drop, min, Option, Some, option_map, IfSome};
 ghost use Rattle.std.specs.List.{flat_map, AllByRecursion};
-ghost use Rattle.kms_record.specs.Acl.{acl_put_bytes, IsAclPutInRange};
+ghost use Rattle.kms_record.specs.Acl.{acl_put_bytes, IsAclPutInRange, IsAclPutTyped};
 ghost use Rattle.kms_record.specs.Base.{count_of, put_state, limit_of, member_of, payload_put_of, metadata_put_of, container_put_of, consumer_added_of, acl_put_of, order_put_of, quota_limits_of, quota_put_of, base_bytes, IsBaseInRange};
-ghost use Rattle.kms_record.specs.Consumer.{consumer_added_bytes, IsConsumerAddedInRange};
-ghost use Rattle.kms_record.specs.Container.{member_bytes, container_put_bytes, IsContainerPutInRange, IsMemberInRange, AreMembersInRange};
+ghost use Rattle.kms_record.specs.Consumer.{consumer_added_bytes, IsConsumerAddedInRange, IsConsumerAddedTyped};
+ghost use Rattle.kms_record.specs.Container.{member_bytes, container_put_bytes, IsContainerPutInRange, IsContainerPutTyped, IsMemberInRange, IsMemberTyped, AreMembersInRange, AreMembersTyped};
 ghost use Rattle.kms_record.specs.Fields.{list_bytes};
-ghost use Rattle.kms_record.specs.Metadata.{metadata_put_bytes, IsMetadataPutInRange};
-ghost use Rattle.kms_record.specs.Order.{order_put_bytes, IsOrderPutInRange};
-ghost use Rattle.kms_record.specs.Payload.{payload_put_bytes, IsPayloadPutInRange};
-ghost use Rattle.kms_record.specs.Quota.{quota_put_bytes, IsLimitInRange, IsQuotaPutInRange};
-ghost use Rattle.kms_record.specs.SecretPut.{secret_put_bytes, put_of, IsInRange};
+ghost use Rattle.kms_record.specs.Metadata.{metadata_put_bytes, IsMetadataPutInRange, IsMetadataPutTyped};
+ghost use Rattle.kms_record.specs.Order.{order_put_bytes, IsOrderPutInRange, IsOrderPutTyped};
+ghost use Rattle.kms_record.specs.Payload.{payload_put_bytes, IsPayloadPutInRange, IsPayloadPutTyped};
+ghost use Rattle.kms_record.specs.Quota.{quota_put_bytes, IsLimitInRange, IsQuotaPutInRange, IsQuotaPutTyped};
+ghost use Rattle.kms_record.specs.SecretPut.{secret_put_bytes, put_of, IsInRange, IsTextual};
 ghost use Rattle.kms_record.specs.Window.{shown};
 
 use crate::acl::write_users;
@@ -48,7 +48,8 @@ pub(crate) fn count_of(id: Id) -> u64
 #[tactic(auto, using(crate::proofs::WindowLaws::shown_twice), unfolding(crate::specs::SecretPut::secret_put_bytes))]
 fn write_secret(out: &mut Window, row: &SecretRow)
     requires { IsInRange (put_of (count_of row.now.id) row.now) }
-    ensures { out.new ≡ shown out.old (secret_put_bytes (put_of (count_of row.now.id) row.now)) }
+    ensures spelled { out.new ≡ shown out.old (secret_put_bytes (put_of (count_of row.now.id) row.now)) }
+    ensures typed { IsTextual (put_of (count_of row.now.id) row.now) }
 {
     spell::number(out, count_of(row.id));
     spell::name(out, &row.project);
@@ -66,7 +67,8 @@ fn write_secret(out: &mut Window, row: &SecretRow)
 #[tactic(auto, using(crate::proofs::WindowLaws::shown_twice), unfolding(crate::specs::Payload::payload_put_bytes))]
 fn write_payload(out: &mut Window, row: &SecretRow, number: u32, payload: &Payload)
     requires { IsPayloadPutInRange (payload_put_of row.now number payload.now) }
-    ensures { out.new ≡ shown out.old (payload_put_bytes (payload_put_of row.now number payload.now)) }
+    ensures spelled { out.new ≡ shown out.old (payload_put_bytes (payload_put_of row.now number payload.now)) }
+    ensures typed { IsPayloadPutTyped (payload_put_of row.now number payload.now) }
 {
     spell::number(out, count_of(row.id));
     spell::number(out, row.updated);
@@ -78,7 +80,8 @@ fn write_payload(out: &mut Window, row: &SecretRow, number: u32, payload: &Paylo
 #[tactic(auto, using(crate::proofs::WindowLaws::shown_twice), unfolding(crate::specs::Metadata::metadata_put_bytes))]
 fn write_metadata(out: &mut Window, row: &SecretRow)
     requires { IsMetadataPutInRange (metadata_put_of row.now) }
-    ensures { out.new ≡ shown out.old (metadata_put_bytes (metadata_put_of row.now)) }
+    ensures spelled { out.new ≡ shown out.old (metadata_put_bytes (metadata_put_of row.now)) }
+    ensures typed { IsMetadataPutTyped (metadata_put_of row.now) }
 {
     spell::number(out, count_of(row.id));
     spell::number(out, row.updated);
@@ -88,18 +91,20 @@ fn write_metadata(out: &mut Window, row: &SecretRow)
 #[tactic(auto, using(crate::proofs::WindowLaws::shown_twice), unfolding(crate::specs::Consumer::consumer_added_bytes))]
 fn write_consumer(out: &mut Window, row: &ConsumerRow)
     requires { IsConsumerAddedInRange (consumer_added_of row.now) }
-    ensures { out.new ≡ shown out.old (consumer_added_bytes (consumer_added_of row.now)) }
+    ensures spelled { out.new ≡ shown out.old (consumer_added_bytes (consumer_added_of row.now)) }
+    ensures typed { IsConsumerAddedTyped (consumer_added_of row.now) }
 {
     spell::number(out, count_of(row.container));
-    spell::filled_text(out, &row.name);
-    spell::filled_text(out, &row.url);
+    spell::text(out, &row.name);
+    spell::text(out, &row.url);
     spell::number(out, row.created);
 }
 
 #[tactic(auto, using(crate::proofs::WindowLaws::shown_twice), unfolding(crate::specs::Acl::acl_put_bytes))]
 fn write_acl(out: &mut Window, row: &AclRow)
     requires { IsAclPutInRange (acl_put_of row.now) }
-    ensures { out.new ≡ shown out.old (acl_put_bytes (acl_put_of row.now)) }
+    ensures spelled { out.new ≡ shown out.old (acl_put_bytes (acl_put_of row.now)) }
+    ensures typed { IsAclPutTyped (acl_put_of row.now) }
 {
     spell::number(out, count_of(row.target));
     spell::mark(out, row.project_access);
@@ -121,14 +126,15 @@ fn put_state(state: OrderState) -> OrderPutState
 #[tactic(auto, using(crate::proofs::WindowLaws::shown_twice), unfolding(crate::specs::Order::order_put_bytes))]
 fn write_order(out: &mut Window, row: &OrderRow)
     requires { IsOrderPutInRange (order_put_of row.now) }
-    ensures { out.new ≡ shown out.old (order_put_bytes (order_put_of row.now)) }
+    ensures spelled { out.new ≡ shown out.old (order_put_bytes (order_put_of row.now)) }
+    ensures typed { IsOrderPutTyped (order_put_of row.now) }
 {
     spell::number(out, count_of(row.id));
     spell::name(out, &row.project);
     spell::name(out, &row.creator);
     spell::number(out, row.created);
     spell::number(out, row.updated);
-    spell::filled_text(out, &row.algorithm);
+    spell::text(out, &row.algorithm);
     spell::short_number(out, row.bit_length);
     spell::optional_text(out, &row.mode);
     spell::optional_text(out, &row.name);
@@ -139,7 +145,8 @@ fn write_order(out: &mut Window, row: &OrderRow)
 #[tactic(auto, using(crate::proofs::WindowLaws::shown_twice), unfolding(crate::specs::Container::member_bytes))]
 fn write_member(out: &mut Window, member: &(Option<Text>, Id))
     requires { IsMemberInRange (member_of member.now) }
-    ensures { out.new ≡ shown out.old (member_bytes (member_of member.now)) }
+    ensures spelled { out.new ≡ shown out.old (member_bytes (member_of member.now)) }
+    ensures typed { IsMemberTyped (member_of member.now) }
 {
     spell::optional_text(out, &member.0);
     spell::number(out, count_of(member.1));
@@ -147,7 +154,8 @@ fn write_member(out: &mut Window, member: &(Option<Text>, Id))
 
 fn write_each_member(out: &mut Window, members: &[(Option<Text>, Id)])
     requires { AllByRecursion IsMemberInRange (map member_of members.now) }
-    ensures { out.new ≡ shown out.old (flat_map member_bytes (map member_of members.now)) }
+    ensures spelled { out.new ≡ shown out.old (flat_map member_bytes (map member_of members.now)) }
+    ensures typed { AreMembersTyped (map member_of members.now) }
 {
     for member in members {
         write_member(out, member);
@@ -157,7 +165,8 @@ fn write_each_member(out: &mut Window, members: &[(Option<Text>, Id)])
 #[tactic(auto, using(crate::proofs::WindowLaws::shown_twice), unfolding(crate::specs::Container::container_put_bytes))]
 fn write_container(out: &mut Window, row: &ContainerRow)
     requires { IsContainerPutInRange (container_put_of row.now) }
-    ensures { out.new ≡ shown out.old (container_put_bytes (container_put_of row.now)) }
+    ensures spelled { out.new ≡ shown out.old (container_put_bytes (container_put_of row.now)) }
+    ensures typed { IsContainerPutTyped (container_put_of row.now) }
 {
     spell::number(out, count_of(row.id));
     spell::name(out, &row.project);
@@ -172,7 +181,8 @@ fn write_container(out: &mut Window, row: &ContainerRow)
 #[tactic(auto, using(crate::proofs::WindowLaws::shown_twice, crate::proofs::MemberLaws::length_members))]
 fn write_members(out: &mut Window, members: &[(Option<Text>, Id)])
     requires { AreMembersInRange (map member_of members.now) }
-    ensures { out.new ≡ shown out.old (list_bytes member_bytes (map member_of members.now)) }
+    ensures spelled { out.new ≡ shown out.old (list_bytes member_bytes (map member_of members.now)) }
+    ensures typed { AreMembersTyped (map member_of members.now) }
 {
     spell::byte(out, members.len() as u8);
     write_each_member(out, members);
@@ -202,7 +212,8 @@ fn optional_limit_of(value: Option<i64>) -> Option<QuotaLimit>
 #[tactic(auto, using(crate::proofs::WindowLaws::shown_twice), unfolding(crate::specs::Quota::quota_put_bytes, crate::specs::Fields::u8_bytes))]
 fn write_quota(out: &mut Window, row: &QuotaRow)
     requires { IsQuotaPutInRange (quota_put_of row.now) }
-    ensures { out.new ≡ shown out.old (quota_put_bytes (quota_put_of row.now)) }
+    ensures spelled { out.new ≡ shown out.old (quota_put_bytes (quota_put_of row.now)) }
+    ensures typed { IsQuotaPutTyped (quota_put_of row.now) }
 {
     spell::name(out, &row.project);
     spell::byte(out, 1);
@@ -219,14 +230,15 @@ fn write_quota(out: &mut Window, row: &QuotaRow)
 
 impl<'a> BaseChange<'a> {
     ghost use Rattle.std.specs.Prelude.{◌≡◌};
-    ghost use Rattle.kms_record.specs.Base.{base_bytes, IsBaseInRange};
+    ghost use Rattle.kms_record.specs.Base.{base_bytes, IsBase, IsBaseInRange};
     ghost use Rattle.kms_record.specs.Window.{shown};
 
     /// Writes the byte of its kind, and its fields.
     #[tactic(auto, using(crate::proofs::WindowLaws::shown_twice), unfolding(crate::specs::Fields::u8_bytes))]
     pub(crate) fn write(&self, out: &mut Window)
         requires { IsBaseInRange self.now }
-        ensures { out.new ≡ shown out.old (base_bytes self.now) }
+        ensures spelled { out.new ≡ shown out.old (base_bytes self.now) }
+        ensures admitted { IsBase self.now }
     {
         match self {
             BaseChange::Key(key) => {

@@ -170,7 +170,7 @@ impl Changes {
         }
     }
 
-    /// Puts a change behind the others. After `NoMemory` they are as before.
+    /// Puts a change after the others. After `NoMemory` they are as before.
     pub fn push(&mut self, change: Change) -> Result<(), NoMemory>
         ensures ok { OnOk result (self.new ≡ self.old ++ change ∷ []) }
         ensures err { OnErr result (self.new ≡ self.old) }

@@ -15,9 +15,9 @@ use std::alloc::Global;
 pub struct ConsumerAdded {
     /// the count of the container's id under the store's tag, below 2^62
     pub container: u64,
-    /// 1 to 255 bytes
+    /// at most 255 bytes
     pub name: Text,
-    /// 1 to 255 bytes
+    /// at most 255 bytes
     pub url: Text,
     /// in seconds since 1970, below the year 10000
     pub created: u64,
@@ -33,8 +33,8 @@ pub fn read_consumer_added(
 {
     Ok(ConsumerAdded {
         container: fields::id(cursor)?,
-        name: fields::filled_text(alloc, cursor)?,
-        url: fields::filled_text(alloc, cursor)?,
+        name: fields::short_text(alloc, cursor)?,
+        url: fields::short_text(alloc, cursor)?,
         created: fields::time(cursor)?,
     })
 }
@@ -49,8 +49,8 @@ impl ConsumerAdded {
         ensures { IsTrue result ↔ IsConsumerAddedInRange self.now }
     {
         range::is_id(self.container)
-            && range::is_filled(&self.name)
-            && range::is_filled(&self.url)
+            && range::is_short_text(&self.name)
+            && range::is_short_text(&self.url)
             && range::is_time(self.created)
     }
 
@@ -62,8 +62,8 @@ impl ConsumerAdded {
         ensures typed { IsConsumerAddedTyped self.now }
     {
         spell::number(out, self.container);
-        spell::filled_text(out, &self.name);
-        spell::filled_text(out, &self.url);
+        spell::text(out, &self.name);
+        spell::text(out, &self.url);
         spell::number(out, self.created);
     }
 }
@@ -87,8 +87,8 @@ pub fn read_consumer_dropped(
 {
     Ok(ConsumerDropped {
         container: fields::id(cursor)?,
-        name: fields::filled_text(alloc, cursor)?,
-        url: fields::filled_text(alloc, cursor)?,
+        name: fields::short_text(alloc, cursor)?,
+        url: fields::short_text(alloc, cursor)?,
     })
 }
 
@@ -101,7 +101,9 @@ impl ConsumerDropped {
     pub fn is_in_range(&self) -> bool
         ensures { IsTrue result ↔ IsConsumerDroppedInRange self.now }
     {
-        range::is_id(self.container) && range::is_filled(&self.name) && range::is_filled(&self.url)
+        range::is_id(self.container)
+            && range::is_short_text(&self.name)
+            && range::is_short_text(&self.url)
     }
 
     /// Writes the fields.
@@ -112,7 +114,7 @@ impl ConsumerDropped {
         ensures typed { IsConsumerDroppedTyped self.now }
     {
         spell::number(out, self.container);
-        spell::filled_text(out, &self.name);
-        spell::filled_text(out, &self.url);
+        spell::text(out, &self.name);
+        spell::text(out, &self.url);
     }
 }

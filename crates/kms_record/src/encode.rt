@@ -48,7 +48,7 @@ fn put_changes(out: &mut Bytes, changes: &[Change]) -> Result<(), NoMemory>
     Ok(())
 }
 
-/// Puts the one spelling of a step behind the bytes. The step has 1 to 65,535 changes whose numbers and lengths are in
+/// Puts the one spelling of a step after the bytes. The step has 1 to 65,535 changes whose numbers and lengths are in
 /// their ranges. After `NoMemory` the bytes are as before.
 #[tactic(auto, unfolding(crate::specs::Fields::u16_bytes))]
 pub fn encode_step(step: &Step, out: &mut Bytes) -> Result<(), NoMemory>

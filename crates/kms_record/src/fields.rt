@@ -1,6 +1,6 @@
 // The fields of changes, read.
 ghost use Rattle.std.specs.Prelude.{◌≡◌};
-ghost use Rattle.kms_record.specs.Reading.{Finds, Gives, id_at, time_at, bit_length_at, short_text_at, filled_text_at, text_at, long_text_at, token_at, taken, name_at, secret_kind_at, container_kind_at, media_at, cause_at, mark_at, option_at, list_count_at};
+ghost use Rattle.kms_record.specs.Reading.{Finds, Gives, id_at, time_at, bit_length_at, short_text_at, text_at, long_text_at, token_at, taken, name_at, secret_kind_at, container_kind_at, media_at, cause_at, mark_at, option_at, list_count_at};
 
 use crate::cursor::Cursor;
 use crate::range;
@@ -157,20 +157,6 @@ pub fn token(alloc: Global, cursor: &mut Cursor<'_>) -> Result<Bytes, ReadError>
         return Err(ReadError::Malformed);
     }
     Ok(Bytes::of(alloc, bytes)?)
-}
-
-/// UTF-8 text of 1 to 255 bytes.
-pub fn filled_text(alloc: Global, cursor: &mut Cursor<'_>) -> Result<Text, ReadError>
-    ensures { Gives (λ x. (x, cursor.new)) result (filled_text_at cursor.old) }
-{
-    let bytes = text_bytes(cursor)?;
-    if bytes.len() < 1 || 255 < bytes.len() {
-        return Err(ReadError::Malformed);
-    }
-    match std::str::from_utf8(bytes) {
-        Ok(text) => Ok(Text::of(alloc, text)?),
-        Err(_) => Err(ReadError::Malformed),
-    }
 }
 
 /// How many values a list has, at most 100.

@@ -4,11 +4,14 @@ ghost use Rattle.std.specs.List.{AllByRecursion};
 ghost use Rattle.kms_world.specs.LookUp.{order_of};
 ghost use Rattle.kms_world.specs.declared.id.Id.{Id};
 ghost use Rattle.kms_world.specs.declared.order.OrderRow.{OrderRow};
+ghost use Rattle.kms_world.specs.declared.order.OrderState.TheVariants as order_states;
 ghost use Rattle.kms_world.specs.declared.secret.SecretRow.{SecretRow};
 ghost use Rattle.kms_record.specs.declared.change.Change.{Change};
 ghost use Rattle.kms_record.specs.SecretPut.{put_of};
-ghost use Rattle.kms_record.specs.Kept.{Kept, Part, Records, Base, applies, changed, is_pending, after_change, after_record};
+ghost use Rattle.kms_record.specs.Kept.{Kept, Part, Records, Base, applies, changed, after_change, after_record};
 ghost use Rattle.kms_record.specs.SecretsOnly.{id_of_count, with_secret, after_secret_change, after_secret_record};
+ghost use Rattle.kms_record.specs.Deletion.{Deletes};
+ghost use Rattle.kms_record.specs.KeyNumbers.{KeysRise, KeysStandApart};
 ghost use Rattle.kms_record.specs.Rising.{IsRising};
 ghost use Rattle.kms_record.specs.Orders.{AllNameApart};
 ghost use Rattle.kms_record.specs.Joined.{IsJoined};
@@ -56,24 +59,38 @@ pub fn a_put_secret_is_a_change()
     ensures { (change : Change) (kept after : Kept) → after_secret_change change kept ≡ Some after → after_change Records change kept ≡ Some after }
 {}
 
-/// The steps of two records apply one behind the other.
+/// The steps of two records apply one after the other.
 pub fn records_apply_in_order()
     ensures all { (a b : List (List Change)) (kept : Kept) → after_record (a ++ b) kept ≡ option_and_then (after_record b) (after_record a kept) }
     ensures secrets { (a b : List (List Change)) (kept : Kept) → after_secret_record (a ++ b) kept ≡ option_and_then (after_secret_record b) (after_secret_record a kept) }
 {}
 
-/// In each table ids rise and were given, whatever change applies, in records and in a base; a base gives no ids; and no
-/// two orders name one id.
+/// In each table ids rise and were given, whatever change applies, in records and in a snapshot; a snapshot gives no ids;
+/// no more are given than a count has room for; and no two orders name one id.
 pub fn ids_rise()
     ensures rise { (part : Part) (change : Change) (kept : Kept) → IsRising kept.state → applies part change kept ≡ true → IsRising (changed change kept).state }
     ensures base { (change : Change) (kept : Kept) → IsRising kept.state → applies Base change kept ≡ true → (changed change kept).state.ids ≡ kept.state.ids }
+    ensures within { (part : Part) (change : Change) (kept : Kept) → IsRising kept.state → kept.state.ids ≤ 2 ^ 62 → applies part change kept ≡ true → (changed change kept).state.ids ≤ 2 ^ 62 }
     ensures apart { (part : Part) (change : Change) (kept : Kept) → IsRising kept.state → AllNameApart kept.state.orders → applies part change kept ≡ true → AllNameApart (changed change kept).state.orders }
 {}
 
-/// An order that is no longer pending stays as it is, whatever change applies, or goes.
+/// The numbers of a project's keys rise, from 1 at least, whatever change applies: so a number is never given twice while
+/// its key is there.
+pub fn key_numbers_rise()
+    ensures { (part : Part) (change : Change) (kept : Kept) → KeysRise kept.keys → applies part change kept ≡ true → KeysRise (changed change kept).keys }
+{}
+
+/// Where no two keys of one project have the same number, none have whatever change applies.
+pub fn keys_stay_apart()
+    ensures { (part : Part) (change : Change) (kept : Kept) → KeysStandApart kept.keys → applies part change kept ≡ true → KeysStandApart (changed change kept).keys }
+{}
+
+/// An order that is no longer pending stays as it is, whatever change applies, but for the one that deletes it. And an
+/// order goes by that one alone, pending or not.
 pub fn settled_orders_stay()
-    ensures { (part : Part) (kept : Kept) → IsRising kept.state → (id : Id) (a b : OrderRow) → order_of id kept.state.orders ≡ Some a → is_pending a.state ≡ false
-        → (change : Change) → applies part change kept ≡ true → order_of id (changed change kept).state.orders ≡ Some b → b ≡ a }
+    ensures stay { (part : Part) (kept : Kept) → IsRising kept.state → (id : Id) (a : OrderRow) → order_of id kept.state.orders ≡ Some a → (a.state ≡ order_states.Pending → ⊥)
+        → (change : Change) → applies part change kept ≡ true → (Deletes kept.state.tag id change → ⊥) → order_of id (changed change kept).state.orders ≡ Some a }
+    ensures go { (kept : Kept) (id : Id) (a : OrderRow) → order_of id kept.state.orders ≡ Some a → (change : Change) → order_of id (changed change kept).state.orders ≡ None → Deletes kept.state.tag id change }
 {}
 
 /// Consumers and access lists hang on rows that are there, whatever change applies.

@@ -39,7 +39,7 @@ impl MemberList {
         }
     }
 
-    /// Puts a member behind the others. After `NoMemory` they are as before.
+    /// Puts a member after the others. After `NoMemory` they are as before.
     pub fn push(&mut self, member: Member) -> Result<(), NoMemory>
         ensures ok { OnOk result (self.new ≡ self.old ++ member ∷ []) }
         ensures err { OnErr result (self.new ≡ self.old) }

@@ -22,7 +22,7 @@ pub struct MetadataPut {
     pub secret: u64,
     /// in seconds since 1970, below the year 10000
     pub updated: u64,
-    /// at most 100; keys have 1 to 255 bytes, values at most 255
+    /// at most 100; keys and values have at most 255 bytes
     pub pairs: Pairs,
 }
 
@@ -69,7 +69,7 @@ impl MetadataPut {
 fn read_pair(alloc: Global, cursor: &mut Cursor<'_>) -> Result<(Text, Text), ReadError>
     ensures { Gives (λ x. (x, cursor.new)) result (pair_at cursor.old) }
 {
-    let key = fields::filled_text(alloc, cursor)?;
+    let key = fields::short_text(alloc, cursor)?;
     let value = fields::short_text(alloc, cursor)?;
     Ok((key, value))
 }
@@ -112,7 +112,7 @@ fn read_pairs(alloc: Global, cursor: &mut Cursor<'_>) -> Result<Pairs, ReadError
 fn is_pair_in_range(pair: &(Text, Text)) -> bool
     ensures { IsTrue result ↔ IsPairInRange pair.now }
 {
-    range::is_filled(&pair.0) && range::is_short_text(&pair.1)
+    range::is_short_text(&pair.0) && range::is_short_text(&pair.1)
 }
 
 fn is_each_pair_in_range(pairs: &[(Text, Text)]) -> bool
@@ -126,7 +126,7 @@ fn is_each_pair_in_range(pairs: &[(Text, Text)]) -> bool
     true
 }
 
-/// There are at most 100 pairs, keys of 1 to 255 bytes and values of at most 255.
+/// There are at most 100 pairs, of keys and values of at most 255 bytes.
 pub(crate) fn are_pairs_in_range(pairs: &[(Text, Text)]) -> bool
     ensures { IsTrue result ↔ ArePairsInRange pairs.now }
 {
@@ -139,7 +139,7 @@ fn write_pair(out: &mut Window, pair: &(Text, Text))
     ensures spelled { out.new ≡ shown out.old (pair_bytes pair.now) }
     ensures typed { IsPairTyped pair.now }
 {
-    spell::filled_text(out, &pair.0);
+    spell::text(out, &pair.0);
     spell::text(out, &pair.1);
 }
 

@@ -32,7 +32,7 @@ pub struct OrderPut {
     pub creator: Name,
     pub created: u64,
     pub updated: u64,
-    /// 1 to 255 bytes
+    /// at most 255 bytes
     pub algorithm: Text,
     /// 1 to 32,767
     pub bit_length: u16,
@@ -56,7 +56,7 @@ pub fn read_order_put(alloc: Global, cursor: &mut Cursor<'_>) -> Result<OrderPut
         creator: fields::name(cursor)?,
         created: fields::time(cursor)?,
         updated: fields::time(cursor)?,
-        algorithm: fields::filled_text(alloc, cursor)?,
+        algorithm: fields::short_text(alloc, cursor)?,
         bit_length: fields::bit_length(cursor)?,
         mode: fields::optional_text(alloc, cursor)?,
         name: fields::optional_text(alloc, cursor)?,
@@ -79,7 +79,7 @@ impl OrderPut {
             && range::is_short_name(&self.creator)
             && range::is_time(self.created)
             && range::is_time(self.updated)
-            && range::is_filled(&self.algorithm)
+            && range::is_short_text(&self.algorithm)
             && range::is_bit_length(self.bit_length)
             && range::is_short(&self.mode)
             && range::is_short(&self.name)
@@ -99,7 +99,7 @@ impl OrderPut {
         spell::name(out, &self.creator);
         spell::number(out, self.created);
         spell::number(out, self.updated);
-        spell::filled_text(out, &self.algorithm);
+        spell::text(out, &self.algorithm);
         spell::short_number(out, self.bit_length);
         spell::optional_text(out, &self.mode);
         spell::optional_text(out, &self.name);

@@ -1,15 +1,16 @@
 // The spelling of a snapshot's change, a piece at a time.
 ghost use Rattle.std.specs.Prelude.{◌≡◌, ◌≤◌, ◌-◌, ◌++◌, length, take, drop, min};
-ghost use Rattle.kms_record.specs.Base.{base_bytes, IsBaseInRange};
+ghost use Rattle.kms_record.specs.Base.{base_bytes, IsBase, IsBaseInRange};
 
 use crate::BaseChange;
 use crate::window::Window;
 
-/// How many bytes the change is spelled with in a snapshot. The row's numbers and lengths are in their ranges, and the
-/// secret of a payload has one.
+/// How many bytes the change is spelled with in a snapshot; such a change is one of the grammar. The row's numbers and
+/// lengths are in their ranges, and the secret of a payload has one.
 pub fn base_len(change: &BaseChange<'_>) -> usize
     requires { IsBaseInRange change.now }
-    ensures { result ≡ length (base_bytes change.now) }
+    ensures len { result ≡ length (base_bytes change.now) }
+    ensures admitted { IsBase change.now }
 {
     let mut window = Window::after(usize::MAX);
     change.write(&mut window);

@@ -1,6 +1,6 @@
 // Whether fields are in their ranges.
 ghost use Rattle.std.specs.Prelude.{◌≡◌, ◌≤◌, ◌<◌, ◌^◌, ◌↔◌, length, IsTrue, IfSome};
-ghost use Rattle.kms_record.specs.Fields.{IsShort, IsFilled, IsBitLength, IsToken};
+ghost use Rattle.kms_record.specs.Fields.{IsShort, IsBitLength, IsToken};
 ghost use Rattle.kms_world.specs.Times.{end_of_times};
 
 use kms_world::{Bytes, Name, Text};
@@ -71,13 +71,6 @@ pub fn is_short_text(text: &Text) -> bool
     ensures { IsTrue result ↔ IsShort text.now }
 {
     text.as_str().len() <= 255
-}
-
-/// A text has 1 to 255 bytes.
-pub fn is_filled(text: &Text) -> bool
-    ensures { IsTrue result ↔ IsFilled text.now }
-{
-    !text.as_str().is_empty() && text.as_str().len() <= 255
 }
 
 /// A token has 100 to 26,764 bytes.

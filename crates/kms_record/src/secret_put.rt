@@ -1,5 +1,5 @@
 // A secret is put.
-ghost use Rattle.std.specs.Prelude.{◌≡◌, ◌<◌, ◌^◌, ◌++◌, IfOk, OnOk};
+ghost use Rattle.std.specs.Prelude.{◌≡◌};
 ghost use Rattle.kms_record.specs.Reading.{Gives};
 ghost use Rattle.kms_record.specs.SecretPutReading.{secret_put_at};
 
@@ -7,7 +7,7 @@ use crate::cursor::Cursor;
 use crate::read_error::ReadError;
 use crate::window::Window;
 use crate::{fields, range, spell};
-use kms_world::{Bytes, Name, NoMemory, Pairs, SecretKind, SecretRow, Text, id_of};
+use kms_world::{Bytes, Name, NoMemory, Pairs, SecretKind, SecretRow, Text, copied, id_of};
 use std::alloc::Global;
 
 /// A secret comes, without payload and metadata. Times are whole seconds since 1970, below the year 10000; texts have
@@ -65,10 +65,10 @@ impl SecretPut {
             creator: row.creator,
             created: row.created,
             updated: row.updated,
-            name: text_copied(&row.name)?,
-            algorithm: text_copied(&row.algorithm)?,
+            name: copied(&row.name)?,
+            algorithm: copied(&row.algorithm)?,
             bit_length: row.bit_length,
-            mode: text_copied(&row.mode)?,
+            mode: copied(&row.mode)?,
             kind: row.kind,
             expiration: row.expiration,
         })
@@ -131,14 +131,5 @@ impl SecretPut {
         spell::optional_text(out, &self.mode);
         spell::secret_kind(out, self.kind);
         spell::optional_time(out, self.expiration);
-    }
-}
-
-fn text_copied(text: &Option<Text>) -> Result<Option<Text>, NoMemory>
-    ensures { IfOk result (λ copy. copy ≡ text.now) }
-{
-    match text {
-        None => Ok(None),
-        Some(text) => Ok(Some(text.clone()?)),
     }
 }

@@ -2,7 +2,7 @@
 ghost use Rattle.std.specs.Prelude.{◌≡◌, ◌<◌, ◌≤◌, ◌^◌, length, IfSome, true};
 ghost use Rattle.std.specs.Str.{IsUtf8};
 ghost use Rattle.kms_world.specs.Name.{is_name};
-ghost use Rattle.kms_record.specs.Fields.{u8_bytes, u16_bytes, u32_bytes, u64_bytes, text_bytes, option_bytes, secret_kind_number, container_kind_number, media_number, cause_number, token_bytes, mark_bytes, IsShort, IsFilled, IsToken};
+ghost use Rattle.kms_record.specs.Fields.{u8_bytes, u16_bytes, u32_bytes, u64_bytes, text_bytes, option_bytes, secret_kind_number, container_kind_number, media_number, cause_number, token_bytes, mark_bytes, IsShort, IsToken};
 ghost use Rattle.kms_record.specs.Window.{shown};
 
 use crate::window::Window;
@@ -63,15 +63,6 @@ pub fn name(out: &mut Window, name: &Name)
 /// A text of at most 255 bytes.
 pub fn text(out: &mut Window, text: &Text)
     requires { IsShort text.now }
-    ensures spelled { out.new ≡ shown out.old (text_bytes text.now) }
-    ensures utf8 { IsUtf8 text.now }
-{
-    bytes_with_length(out, text.as_str().as_bytes());
-}
-
-/// A text of 1 to 255 bytes.
-pub fn filled_text(out: &mut Window, text: &Text)
-    requires { IsFilled text.now }
     ensures spelled { out.new ≡ shown out.old (text_bytes text.now) }
     ensures utf8 { IsUtf8 text.now }
 {

@@ -44,7 +44,7 @@ impl Step {
         }
     }
 
-    /// Puts a change behind the others. After `NoMemory` they are as before.
+    /// Puts a change after the others. After `NoMemory` they are as before.
     pub fn push(&mut self, change: Change) -> Result<(), NoMemory>
         ensures ok { OnOk result (self.new ≡ self.old ++ change ∷ []) }
         ensures err { OnErr result (self.new ≡ self.old) }
@@ -105,7 +105,7 @@ impl Steps {
         }
     }
 
-    /// Puts a step behind the others. After `NoMemory` they are as before.
+    /// Puts a step after the others. After `NoMemory` they are as before.
     pub fn push(&mut self, step: Step) -> Result<(), NoMemory>
         ensures ok { OnOk result (self.new ≡ self.old ++ step ∷ []) }
         ensures err { OnErr result (self.new ≡ self.old) }
