@@ -3,7 +3,7 @@ use Rattle.std.proofs.Common.{ℕ, Option, Result, Ok, Err, refl}
 use Rattle.kms_json.proofs.Phrases.{HasPhrase}
 use Rattle.kms_model.specs.Ask.{answer_to}
 use Rattle.kms_model.specs.Done.{Done, ◌>>=◌, answer_by, only_if, there}
-use Rattle.kms_model.specs.Secrets.{has_id, is_short_name, posted, secret_at, shown}
+use Rattle.kms_model.specs.Secrets.{has_id, is_short_name, no_field, other_field, posted, secret_at, shown}
 use Rattle.kms_model.specs.Run.{asked_answer}
 use Rattle.kms_world.specs.State.{State}
 use Rattle.kms_world.specs.declared.body.SecretBody.{SecretBody}
