@@ -16,6 +16,7 @@ use crate::machine::standard::Streams;
 use crate::{Failed, NameFault};
 use std::io::Write;
 use std::marker::Model;
+use std::net::TcpListener;
 use std::random::RandomSource;
 use std::rt::HostRuntime;
 
@@ -27,7 +28,7 @@ use std::rt::HostRuntime;
 #[derive(Drop)]
 pub struct Machine {
     rt: HostRuntime,
-    // None where they couldn't be had. Then no file is opened.
+    // None where they couldn't be had. Then no file is opened, and no socket.
     streams: Option<Streams>,
     files: Option<StoreFiles>,
     key_file: u64,
@@ -71,10 +72,6 @@ impl Machine {
             draw: 0,
             listen: 0,
         }
-    }
-
-    pub fn runtime(&self) -> HostRuntime {
-        self.rt
     }
 
     /// Writes a line for the operator to standard error. It is lost where that can't be.
@@ -158,6 +155,28 @@ impl Machine {
                 Err(NameFault::Failed)
             }
         }
+    }
+
+    // A socket that listens on the address, and its port.
+    fn open_listener(&self, address: &str) -> Result<(TcpListener, u16), Failed> {
+        if self.streams.is_none() {
+            return Err(Failed);
+        }
+        let Ok(listener) = TcpListener::bind(&self.rt, address) else {
+            return Err(Failed);
+        };
+        match listener.local_addr() {
+            Ok(at) => Ok((listener, at.port())),
+            Err(_) => Err(Failed),
+        }
+    }
+
+    /// Listens on an address, and finds out on which port.
+    pub fn listen(&mut self, address: &str) -> Result<(TcpListener, u16), Failed>
+        ensures { HasCause counts.Listen self.old self.new result }
+    {
+        let answer = self.open_listener(address);
+        self.listening(answer)
     }
 
     /// The answer to a call that listens or waits for a line, counted where it failed.

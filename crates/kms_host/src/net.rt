@@ -35,17 +35,6 @@ impl Model for NetHost {
     ghost view = { λ n. record { faults = n.machine; port = option_map (λ l. l.1) n.listener } };
 }
 
-// Listens on the address, and finds out on which port.
-fn listener_at(rt: HostRuntime, address: &str) -> Result<(TcpListener, u16), Failed> {
-    let Ok(listener) = TcpListener::bind(&rt, address) else {
-        return Err(Failed);
-    };
-    match listener.local_addr() {
-        Ok(at) => Ok((listener, at.port())),
-        Err(_) => Err(Failed),
-    }
-}
-
 impl NetHost {
     /// The host of this process. It doesn't listen.
     pub fn new(rt: HostRuntime) -> NetHost
@@ -115,8 +104,7 @@ impl Host for NetHost {
         ensures listens { OnOk result (is_some self.new.port ≡ true) }
         ensures err { OnErr result (self.new.port ≡ self.old.port) }
     {
-        let answer = listener_at(self.machine.runtime(), address);
-        match self.machine.listening(answer) {
+        match self.machine.listen(address) {
             Ok(listener) => {
                 self.listener = Some(listener);
                 Ok(())

@@ -141,7 +141,8 @@ mod tests {
         assert!(rt; host.attach("edge-of-kms-host").is_ok());
         assert!(rt; host.cut(0, 0).is_ok());
         assert!(rt; host.write_at(0, 0, b"abcdef").is_ok());
-        assert!(rt; host.write_at(0, 4, b"XYZ").is_ok());
+        assert!(rt; host.write_at(0, 4, b"XYZ!").is_ok());
+        assert!(rt; host.cut(0, 7).is_ok());
         assert!(rt; host.sync(0).is_ok());
         assert!(rt; host.attach("edge-of-kms-host").is_ok());
         assert!(rt; host.len(0) == Ok(7));
