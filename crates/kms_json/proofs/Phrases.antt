@@ -6,7 +6,7 @@ use Rattle.kms_world.specs.declared.refusal.Refusal.TheVariants.{BadMessage, Hea
 use Rattle.kms_world.specs.declared.answer.Answer.{Answer}
 use Rattle.kms_world.specs.declared.answer.Answer.TheVariants.{Refused, Empty, Link, Secret, Payload, Metadata, Pair, Acl, Order, Container, Quotas, ProjectQuotas, List as ListAnswer}
 use Rattle.kms_json.specs.Refused.{status_of, title_of}
-use Rattle.kms_json.specs.Answer.{reply_of}
+use Rattle.kms_json.specs.Answer.{HasForm, reply_of}
 
 pub IsStatusCode-status_of : (refusal : Refusal) → IsStatusCode (status_of refusal)
 IsStatusCode-status_of BadMessage = (omega arith, omega arith)
@@ -46,26 +46,19 @@ reason_phrase-status_of Conflict = refl
 reason_phrase-status_of (QuotaReached kind limit) = refl
 reason_phrase-status_of IdsSpent = refl
 
--- a link, or nothing, is answered with a status that has a reason phrase, as 201 Created has
-abbrev pub HasPhrase : Answer → Type 0
-HasPhrase (Refused refusal) = Unit {0}
-HasPhrase (Empty status) = is_some (reason_phrase status) ≡ true
-HasPhrase (Link status link id) = is_some (reason_phrase status) ≡ true
-HasPhrase answer = Unit {0}
-
--- then so is each answer
-pub reason_phrase-reply_of : (endpoint : List ℕ) (answer : Answer) → HasPhrase answer → is_some (reason_phrase (reply_of endpoint answer).status) ≡ true
+-- and so has the reply of each answer that has a form
+pub reason_phrase-reply_of : (endpoint : List ℕ) (answer : Answer) → HasForm answer → is_some (reason_phrase (reply_of endpoint answer).status) ≡ true
 unfolding reply_of
 reason_phrase-reply_of endpoint (Refused refusal) h = ap is_some (reason_phrase-status_of refusal)
 reason_phrase-reply_of endpoint (Empty status) h = h
 reason_phrase-reply_of endpoint (Link status link id) h = h
 reason_phrase-reply_of endpoint (Secret row) h = refl
-reason_phrase-reply_of endpoint (Payload payload) h = refl
-reason_phrase-reply_of endpoint (Metadata pairs) h = refl
-reason_phrase-reply_of endpoint (Pair status key value) h = refl
-reason_phrase-reply_of endpoint (Acl row) h = refl
-reason_phrase-reply_of endpoint (Order row) h = refl
-reason_phrase-reply_of endpoint (Container view) h = refl
-reason_phrase-reply_of endpoint (Quotas row) h = refl
-reason_phrase-reply_of endpoint (ProjectQuotas row) h = refl
-reason_phrase-reply_of endpoint (ListAnswer path query page total) h = refl
+reason_phrase-reply_of endpoint (Payload payload) h = absurd h
+reason_phrase-reply_of endpoint (Metadata pairs) h = absurd h
+reason_phrase-reply_of endpoint (Pair status key value) h = absurd h
+reason_phrase-reply_of endpoint (Acl row) h = absurd h
+reason_phrase-reply_of endpoint (Order row) h = absurd h
+reason_phrase-reply_of endpoint (Container view) h = absurd h
+reason_phrase-reply_of endpoint (Quotas row) h = absurd h
+reason_phrase-reply_of endpoint (ProjectQuotas row) h = absurd h
+reason_phrase-reply_of endpoint (ListAnswer path query page total) h = absurd h

@@ -1,7 +1,7 @@
 // Answers as replies.
 ghost use Rattle.std.specs.Prelude.{◌≡◌, IfOk};
 ghost use Rattle.kms_world.specs.Times.{HasTimes};
-ghost use Rattle.kms_json.specs.Answer.{empty_reply, refused_reply, reply_of};
+ghost use Rattle.kms_json.specs.Answer.{empty_reply, refused_reply, reply_of, HasForm};
 
 use crate::link::link_body;
 use crate::refused::{allow, error_body, status};
@@ -40,13 +40,13 @@ fn empty(alloc: Global, status: u16) -> Reply
 ///   year 10000);
 /// - an answer without a body has its status alone.
 ///
-/// The answers of operations that aren't served yet have no form here: each is shown as a path that isn't there, and the
-/// engine gives none of them.
+/// The answers of operations that aren't served yet have no form here, so they aren't taken.
 ///
 /// `NoMemory` is the only error.
 #[tactic(auto, unfolding(crate::specs::Answer::reply_of))]
 pub fn answer(alloc: Global, answer: &Answer, endpoint: &str) -> Result<Reply, NoMemory>
-    requires { HasTimes answer.now }
+    requires times { HasTimes answer.now }
+    requires form { HasForm answer.now }
     ensures { IfOk result (λ reply. reply ≡ reply_of endpoint.now answer.now) }
 {
     match answer {
@@ -64,6 +64,14 @@ pub fn answer(alloc: Global, answer: &Answer, endpoint: &str) -> Result<Reply, N
             allow: None,
             body: secret_body(alloc, row, endpoint)?,
         }),
-        _ => refused(alloc, Refusal::NoRoute),
+        Answer::Payload(_)
+        | Answer::Metadata(_)
+        | Answer::Pair { .. }
+        | Answer::Acl(_)
+        | Answer::Order(_)
+        | Answer::Container(_)
+        | Answer::Quotas(_)
+        | Answer::ProjectQuotas(_)
+        | Answer::List { .. } => unreachable!(),
     }
 }

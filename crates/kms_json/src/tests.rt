@@ -2,6 +2,7 @@
 ghost use Rattle.std.specs.Prelude.{IfOk};
 ghost use Rattle.std.specs.Result.{ForOk};
 ghost use Rattle.kms_world.specs.Times.{HasTimes};
+ghost use Rattle.kms_json.specs.Answer.{HasForm};
 
 use crate::answer;
 use kms_world::{
@@ -16,7 +17,8 @@ const ENDPOINT: &str = "http://k/v1";
 const FIRST: Id = Id(0x0123_4567_89ab_8cde_8000_0000_0000_0000);
 
 fn has_body(alloc: Global, given: &Answer, endpoint: &str, body: &str) -> bool
-    requires { HasTimes given.now }
+    requires times { HasTimes given.now }
+    requires form { HasForm given.now }
 {
     match answer(alloc, given, endpoint) {
         Ok(reply) => reply.body.as_slice() == body.as_bytes(),
@@ -94,7 +96,8 @@ fn links_are_shown(rt: HostRuntime) {
 }
 
 fn plain_answer(alloc: Global, project: Name, creator: Name) -> Result<Answer, NoMemory>
-    ensures { IfOk result (λ given. HasTimes given) }
+    ensures times { IfOk result (λ given. HasTimes given) }
+    ensures form { IfOk result (λ given. HasForm given) }
 {
     Ok(Answer::Secret(SecretRow {
         id: FIRST,
@@ -114,7 +117,8 @@ fn plain_answer(alloc: Global, project: Name, creator: Name) -> Result<Answer, N
 }
 
 fn full_answer(alloc: Global, project: Name, creator: Name) -> Result<Answer, NoMemory>
-    ensures { IfOk result (λ given. HasTimes given) }
+    ensures times { IfOk result (λ given. HasTimes given) }
+    ensures form { IfOk result (λ given. HasForm given) }
 {
     Ok(Answer::Secret(SecretRow {
         id: FIRST,
@@ -137,7 +141,8 @@ fn full_answer(alloc: Global, project: Name, creator: Name) -> Result<Answer, No
 }
 
 fn is_shown(alloc: Global, given: Result<Answer, NoMemory>, body: &str) -> bool
-    requires { ForOk given (λ shown. HasTimes shown) }
+    requires times { ForOk given (λ shown. HasTimes shown) }
+    requires form { ForOk given (λ shown. HasForm shown) }
 {
     match given {
         Ok(shown) => has_body(alloc, &shown, ENDPOINT, body),
