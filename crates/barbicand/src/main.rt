@@ -8,7 +8,7 @@ use std::env;
 use std::io::ErrorKind;
 use std::process::ExitCode;
 
-// The words behind the program's name. One that isn't UTF-8 is not understood.
+// The words after the program's name. One that isn't UTF-8 is not understood.
 fn words(rt: HostRuntime) -> Result<Vec<String>, Status> {
     let args = match env::args(&rt) {
         Ok(args) => args,

@@ -15,7 +15,7 @@ use Rattle.kms_journal.proofs.ReadingLaws.{untouched}
 use Rattle.kms_journal.proofs.RestLaws.{frame_is_framed}
 use Rattle.kms_core.specs.Stands.{KeptOf, HasSteps, kept_as}
 use Rattle.kms_core.specs.Settling.{IsOpened, IsSettledOrAll, Settles}
-use Rattle.kms_core.specs.Waiting.{Spelled, Keeping, IsAhead, count_of}
+use Rattle.kms_core.specs.Waiting.{Spelled, Keeping, WaitingLead, count_of}
 use Rattle.kms_core.proofs.StandsLaws.{record_leads, record_counts}
 use Rattle.kms_core.proofs.WaitingLaws.{framed_record, record_is}
 
@@ -23,7 +23,7 @@ use Rattle.kms_core.proofs.WaitingLaws.{framed_record, record_is}
 pub settles_nothing : {T E : Type 0} (k : Keeping) (x : T) → k.waiting ≡ None → (was : History) (settled : State) (steps : ℕ) (state : State) → IsOpened k was settled steps state
     → Settles {T = T} {E = E} k (Ok x) settled steps state (count_of k.waiting) was was
 settles_nothing k x none was settled steps state o =
-    let same : state ≡ settled = subst (λ (w : Option Spelled). IsAhead w settled state) none o.ahead in
+    let same : state ≡ settled = subst (λ (w : Option Spelled). WaitingLead w settled state) none o.ahead in
     let many : steps + count_of k.waiting ≡ steps = ap (λ (w : Option Spelled). steps + count_of w) none ∙ omega arith in
     record {
       throughout = started (IsSettledOrAll settled steps state (count_of k.waiting) was) was (record {
@@ -41,7 +41,7 @@ settles_nothing k x none was settled steps state o =
         placed = o.placed;
         kept = subst (λ (s : State). KeptOf o.standing (kept_as s)) (sym same) o.kept;
         counted = subst (HasSteps o.standing) (sym many) o.counted;
-        ahead = subst (λ (w : Option Spelled). IsAhead w state state) (sym none) refl;
+        ahead = subst (λ (w : Option Spelled). WaitingLead w state state) (sym none) refl;
       };
       quiet = λ quiet. quiet;
     }
@@ -58,8 +58,8 @@ spelled_is_framed s framed is short most = subst IsFramed (sym is) (frame_is_fra
 
 module _ (old : Keeping) (s : Spelled) (framed : List ℕ) (was now : History) (position : Position) (waiting : old.waiting ≡ Some s) (bytes : framed ≡ frame (u32_bytes s.count ++ s.steps))
     (short : length s.steps ≤ 946 * s.count) (most : s.count ≤ 1152) (settled : State) (steps : ℕ) (state : State) (o : IsOpened old was settled steps state) (n : ℕ) (n_is : count_of old.waiting ≡ n) where
-  ahead : IsAhead (Some s) settled state
-  ahead = subst (λ (w : Option Spelled). IsAhead w settled state) waiting o.ahead
+  ahead : WaitingLead (Some s) settled state
+  ahead = subst (λ (w : Option Spelled). WaitingLead w settled state) waiting o.ahead
 
   few : length (record_bytes ahead.0) < 2 ^ 32
   few = subst (λ (l : List ℕ). length l < 2 ^ 32) (record_is s ahead.0 ahead.1) (few_bytes s short most)

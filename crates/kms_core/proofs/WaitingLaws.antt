@@ -19,12 +19,12 @@ use Rattle.kms_world.specs.Effect.{after_effect, ids_with}
 use Rattle.kms_world.specs.declared.id.Id.{Id}
 use Rattle.kms_model.specs.Secrets.{next_id}
 use Rattle.std.specs.Prelude.{Result, Ok, Err, IfOk, OnOk, sum_by}
-use Rattle.kms_core.specs.Spelling.{IsNew, LeadsBehind}
+use Rattle.kms_core.specs.Spelling.{IsNew, LeadsAfter}
 use Rattle.kms_record.specs.Size.{most_bytes}
 use Rattle.kms_record.proofs.SizeLaws.{step_is_short_lem}
 use Rattle.kms_journal.specs.Commit.{frame}
 use Rattle.kms_core.specs.Stands.{kept_as}
-use Rattle.kms_core.specs.Waiting.{Spelled, Spells, IsAhead, count_of, steps_of}
+use Rattle.kms_core.specs.Waiting.{Spelled, Spells, WaitingLead, count_of, steps_of}
 
 pub framed_is : (count : ℕ) (steps a b f1 f2 f3 f4 : List ℕ) → a ≡ to_be_bytes w32 (length steps + 4) → b ≡ to_be_bytes w32 count
     → f1 ≡ a → f2 ≡ f1 ++ b → f3 ≡ f2 ++ steps → f4 ≡ f3 ++ 0 ∷ [] → f4 ≡ frame (u32_bytes count ++ steps)
@@ -46,9 +46,9 @@ all_push : {A : Type 0} (P : A → Type 0) (xs : List A) (x : A) → AllByRecurs
 all_push {A} P [] x each last = (last, tt)
 all_push {A} P (y ∷ ys) x each last = (each.0, all_push P ys x each.1 last)
 
--- one step more behind those that wait
+-- one step more after those that wait
 pub ahead_by_one : (before : Option Spelled) (s : Spelled) (step : List Change) (settled state next : State) → s.count ≡ count_of before + 1 → s.count ≤ 1152
-    → s.steps ≡ steps_of before ++ step_bytes step → IsStep step → after_secret_step step (kept_as state) ≡ Some (kept_as next) → IsAhead before settled state → IsAhead (Some s) settled next
+    → s.steps ≡ steps_of before ++ step_bytes step → IsStep step → after_secret_step step (kept_as state) ≡ Some (kept_as next) → WaitingLead before settled state → WaitingLead (Some s) settled next
 ahead_by_one None s step settled state next count most spelled is leads ahead = (
   step ∷ [],
   record { count = count; spelled = spelled ∙ sym (append-nil (step_bytes step)); admitted = record { some = omega arith; few = omega arith; each = (is, tt) } },
@@ -93,9 +93,9 @@ one_secret_more s row is =
     ap (λ (n : ℕ). let more : State = record s { ids = n; secrets = s.secrets ++ row ∷ [] } in more) (next_is_given s row.id is)
 
 -- a new secret's step leads on
-leads_behind : (before : Option Spelled) (count : ℕ) (row : SecretRow) (put : put_type.SecretPut) (step : List Change) (s : Spelled) → put ≡ put_of count row → step ≡ SecretPut put ∷ []
-    → s.count ≡ count_of before + 1 → s.count ≤ 1152 → s.steps ≡ steps_of before ++ step_bytes step → IsStep step → LeadsBehind before count row s
-leads_behind before count row put step s put_is step_is one most spelled is = (
+leads_after : (before : Option Spelled) (count : ℕ) (row : SecretRow) (put : put_type.SecretPut) (step : List Change) (s : Spelled) → put ≡ put_of count row → step ≡ SecretPut put ∷ []
+    → s.count ≡ count_of before + 1 → s.count ≤ 1152 → s.steps ≡ steps_of before ++ step_bytes step → IsStep step → LeadsAfter before count row s
+leads_after before count row put step s put_is step_is one most spelled is = (
   one,
   λ settled state ids new ahead. ahead_by_one before s step settled state (after_effect (effects.SecretPut row) state) one most spelled is (leads state ids new) ahead,
 )
@@ -106,7 +106,7 @@ leads_behind before count row put step s put_is step_is one most spelled is = (
         ∙ (rw (new_secret_is_kept (kept_as state) row new.left new.id new.payload new.metadata) refl)
         ∙ sym (ap (λ (x : State). Some (kept_as x)) (one_secret_more state row new.id))
 
-pub spelled_behind : {E : Type 0} (r : Result Spelled E) (before : Option Spelled) (count : ℕ) (row : SecretRow) (put : put_type.SecretPut) (step : List Change) → put ≡ put_of count row → step ≡ SecretPut put ∷ []
-    → IfOk r (λ s. s.count ≡ count_of before + 1) → IfOk r (λ s. s.count ≤ 1152) → IfOk r (λ s. s.steps ≡ steps_of before ++ step_bytes step) → OnOk r (IsStep step) → IfOk r (λ s. LeadsBehind before count row s)
-spelled_behind (Ok s) before count row put step put_is step_is one most spelled is = leads_behind before count row put step s put_is step_is one most spelled is
-spelled_behind (Err e) before count row put step put_is step_is one most spelled is = tt
+pub spelled_after : {E : Type 0} (r : Result Spelled E) (before : Option Spelled) (count : ℕ) (row : SecretRow) (put : put_type.SecretPut) (step : List Change) → put ≡ put_of count row → step ≡ SecretPut put ∷ []
+    → IfOk r (λ s. s.count ≡ count_of before + 1) → IfOk r (λ s. s.count ≤ 1152) → IfOk r (λ s. s.steps ≡ steps_of before ++ step_bytes step) → OnOk r (IsStep step) → IfOk r (λ s. LeadsAfter before count row s)
+spelled_after (Ok s) before count row put step put_is step_is one most spelled is = leads_after before count row put step s put_is step_is one most spelled is
+spelled_after (Err e) before count row put step put_is step_is one most spelled is = tt

@@ -9,7 +9,7 @@ use Rattle.kms_journal.specs.Device.{IsQuietStore}
 use Rattle.kms_journal.specs.Position.{IsPlaced}
 use Rattle.kms_journal.specs.Standing.{Standing}
 use Rattle.kms_core.specs.Stands.{KeptOf, HasSteps, Stands, kept_as}
-use Rattle.kms_core.specs.Waiting.{Keeping, IsAhead}
+use Rattle.kms_core.specs.Waiting.{Keeping, WaitingLead}
 
 -- The store stands for the state that was settled, after so many steps, and the steps that wait lead from it to this one.
 pub record IsOpened (store : Keeping) (h : History) (settled : State) (steps : â„•) (state : State) : Type 0 where
@@ -17,7 +17,7 @@ pub record IsOpened (store : Keeping) (h : History) (settled : State) (steps : â
   pub placed : IsPlaced store.journal h standing
   pub kept : KeptOf standing (kept_as settled)
   pub counted : HasSteps standing steps
-  pub ahead : IsAhead store.waiting settled state
+  pub ahead : WaitingLead store.waiting settled state
 
 -- Each crash image stands for the state that was settled, or for the one with all steps that wait, which are so many.
 -- Nothing was called but on files.

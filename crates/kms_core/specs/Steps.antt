@@ -6,7 +6,7 @@ use Rattle.kms_world.specs.Effect.{SecretPut, after_effect}
 use Rattle.kms_model.specs.Secrets.{next_id}
 use Rattle.kms_host.specs.History.{History}
 use Rattle.kms_core.specs.Settling.{IsOpened}
-use Rattle.kms_core.specs.Waiting.{Keeping, IsAhead, count_of}
+use Rattle.kms_core.specs.Waiting.{Keeping, WaitingLead, count_of}
 use Rattle.kms_core.specs.declared.step.Step.{Step}
 
 -- what contracts see of an engine: its state, whether there is room for a step, and its store
@@ -30,10 +30,10 @@ abbrev pub Prepares : Option Step → State → State → Bool → Type 0
 Prepares None before after room = after ≡ before
 Prepares (Some step) before after room = LeadsTo step before after room
 
--- The step is spelled behind the steps that wait: they are one more, and together they lead on.
-abbrev pub IsSpelledBehind : Held → Step → Type 0
-IsSpelledBehind engine step = (step.waiting.count ≡ count_of engine.store.waiting + 1)
-    × ((settled : State) → IsAhead engine.store.waiting settled engine.state → IsAhead (Some step.waiting) settled (after_step engine.state step))
+-- The step is spelled after the steps that wait: they are one more, and together they lead on.
+abbrev pub IsSpelledAfter : Held → Step → Type 0
+IsSpelledAfter engine step = (step.waiting.count ≡ count_of engine.store.waiting + 1)
+    × ((settled : State) → WaitingLead engine.store.waiting settled engine.state → WaitingLead (Some step.waiting) settled (after_step engine.state step))
 
 -- no step waits
 abbrev pub IsIdle : Held → Type 0

@@ -8,7 +8,7 @@ use Rattle.kms_record.specs.SecretsOnly.{after_secret_record}
 use Rattle.kms_journal.specs.Position.{Position}
 use Rattle.kms_core.specs.Stands.{kept_as}
 
--- so many steps, and their spellings, one behind the other
+-- so many steps, and their spellings, one after the other
 pub record Spelled : Type 0 where
   pub count : ℕ
   pub steps : List ℕ
@@ -20,9 +20,9 @@ pub record Spells (s : Spelled) (steps : List (List Change)) : Type 0 where
   pub admitted : AreSteps steps
 
 -- The steps that wait lead from the state that was settled to this one.
-abbrev pub IsAhead : Option Spelled → State → State → Type 0
-IsAhead None settled state = state ≡ settled
-IsAhead (Some s) settled state = (steps : List (List Change)) × Spells s steps × (after_secret_record steps (kept_as settled) ≡ Some (kept_as state))
+abbrev pub WaitingLead : Option Spelled → State → State → Type 0
+WaitingLead None settled state = state ≡ settled
+WaitingLead (Some s) settled state = (steps : List (List Change)) × Spells s steps × (after_secret_record steps (kept_as settled) ≡ Some (kept_as state))
 
 abbrev pub count_of : Option Spelled → ℕ
 count_of None = 0

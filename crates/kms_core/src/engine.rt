@@ -10,7 +10,7 @@ ghost use Rattle.kms_host.specs.declared.call.Count.TheVariants as counts;
 ghost use Rattle.kms_journal.specs.Fault.{Fails};
 ghost use Rattle.kms_journal.specs.Position.{IsPlaced};
 ghost use Rattle.kms_journal.specs.Standing.{Standing};
-ghost use Rattle.kms_core.specs.Steps.{after_step, Prepares, IsIdle, IsWorking, IsSpelledBehind};
+ghost use Rattle.kms_core.specs.Steps.{after_step, Prepares, IsIdle, IsWorking, IsSpelledAfter};
 ghost use Rattle.kms_core.specs.Settling.{IsOpened, Settles};
 ghost use Rattle.kms_core.specs.Waiting.{count_of, with_waiting, with_failed};
 
@@ -64,7 +64,7 @@ impl Engine {
         ensures step { IfOk result (λ a. Prepares a.step self.old.state (state_after self.old.state caller.now op moment) self.new.room) }
         ensures stores { IfOk result (λ a. is_some a.step ≡ stores self.old.state caller.now op moment) }
         ensures times { IfOk result (λ a. HasTimes a.answer) }
-        ensures spelled { IfOk result (λ a. IfSome a.step (IsSpelledBehind self.old)) }
+        ensures spelled { IfOk result (λ a. IfSome a.step (IsSpelledAfter self.old)) }
         ensures same { self.new.state ≡ self.old.state }
         ensures store { self.new.store ≡ self.old.store }
         ensures host { host.new ≡ host.old }

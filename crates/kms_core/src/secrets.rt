@@ -3,7 +3,7 @@ ghost use Rattle.std.specs.Prelude.{◌≡◌, ◌<◌, IfOk, Ok, is_some, IfSom
 ghost use Rattle.kms_model.specs.Done.{answer_by, effects_by, has_some};
 ghost use Rattle.kms_model.specs.Secrets.{is_secret, is_live, is_short_name, other_field, posted, shown};
 ghost use Rattle.kms_world.specs.Effect.{after_effects};
-ghost use Rattle.kms_core.specs.Steps.{Prepares, IsSpelledBehind};
+ghost use Rattle.kms_core.specs.Steps.{Prepares, IsSpelledAfter};
 ghost use Rattle.kms_core.specs.Waiting.{count_of};
 ghost use Rattle.kms_world.specs.Times.{HasTimes};
 
@@ -85,7 +85,7 @@ impl Engine {
         ensures step { IfOk result (λ a. Prepares a.step self.old.state (after_effects (effects_by (posted self.old.state caller.now (Ok body) moment)) self.old.state) self.new.room) }
         ensures stores { IfOk result (λ a. is_some a.step ≡ has_some (effects_by (posted self.old.state caller.now (Ok body) moment))) }
         ensures times { IfOk result (λ a. HasTimes a.answer) }
-        ensures spelled { IfOk result (λ a. IfSome a.step (IsSpelledBehind self.old)) }
+        ensures spelled { IfOk result (λ a. IfSome a.step (IsSpelledAfter self.old)) }
         ensures same { self.new.state ≡ self.old.state }
         ensures store { self.new.store ≡ self.old.store }
     {

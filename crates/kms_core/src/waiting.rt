@@ -67,7 +67,7 @@ fn copied(alloc: Global, before: &Option<Waiting>) -> Result<Bytes, NoMemory>
 }
 
 impl Waiting {
-    /// The steps that wait, and one more behind them. It takes the memory of them all.
+    /// The steps that wait, and one more after them. It takes the memory of them all.
     pub(crate) fn with(
         alloc: Global,
         before: &Option<Waiting>,

@@ -123,13 +123,13 @@ fn streams_end_inside_messages(rt: HostRuntime) -> Result<(), Fail> {
 fn what_is_no_message_ends_the_line(rt: HostRuntime) -> Result<(), Fail> {
     let alloc = rt.alloc();
     let no_head = [b'A'; 512];
-    let behind = joined(alloc, &[POST, b"HELLO\r\n\r\n", POST])?;
+    let after = joined(alloc, &[POST, b"HELLO\r\n\r\n", POST])?;
     let refused = joined(alloc, &[CREATED, REFUSED])?;
     let bad = Status::Unreadable(0);
     assert!(rt; serves(alloc, b"HELLO\r\n\r\n", 9, None, bad, REFUSED)?);
     assert!(rt; serves(alloc, &no_head, 100, None, bad, REFUSED)?);
     assert!(rt; serves(alloc, ANOTHER_BODY, 144, None, bad, REFUSED)?);
-    assert!(rt; serves(alloc, &behind, 1, None, Status::Unreadable(144), &refused)?);
+    assert!(rt; serves(alloc, &after, 1, None, Status::Unreadable(144), &refused)?);
     Ok(())
 }
 

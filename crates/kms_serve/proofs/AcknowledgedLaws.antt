@@ -12,7 +12,7 @@ use Rattle.kms_serve.specs.Events.{LineEvent, events}
 use Rattle.kms_serve.specs.Replies.{steps_by, asked, reply_to, replies, replies_with, answered_of}
 use Rattle.kms_serve.specs.StoreCalls.{store_failed}
 
--- none was acknowledged, or one was, behind replies that are shorter than what was sent
+-- none was acknowledged, or one was, after replies that are shorter than what was sent
 abbrev Found : (line size before : ℕ) → (endpoint : List ℕ) → List LineEvent → List (Option Answer) → Type 0
 Found line size before endpoint es answers =
     (acknowledged_from line size before endpoint es answers ≡ 0)

@@ -52,7 +52,7 @@ clean_broken : (calls : List Call) → EndsClean calls → after most (length (e
 clean_broken calls (inl clean) b = going_broken [] (sym clean.1 ∙ b)
 clean_broken calls (inr over) b = over_broken (sym over ∙ b)
 
--- behind a failed call not all was given, or the line went on
+-- after a failed call not all was given, or the line went on
 failed_goes : (endpoint : List ℕ) (b : RunStart) (marks : List Mark) (calls : List Call) → AtEach (Answered endpoint b marks) calls → EndsFailed 0 calls
     → store_failed calls ≡ false → AllGiven endpoint b marks calls → (rest : List ℕ) × (after most (length (events calls)) (taken 0 calls) ≡ Some (Going rest))
 failed_goes endpoint b marks [] each fails sound given = absurd fails

@@ -42,7 +42,7 @@ pub after-first : (held : List ℕ) → held ≡ [] → after most 0 [] ≡ Some
 unfolding after
 after-first held e = rw e refl
 
--- where the line stands behind a message
+-- where the line stands after a message
 abbrev pub stand : (last : Bool) → (rest : List ℕ) → After
 stand last rest = cond last Over (Going rest)
 

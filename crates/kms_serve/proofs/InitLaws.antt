@@ -1,6 +1,6 @@
 -- `init`, from call to call.
 use Rattle.std.proofs.Common.{◌≡◌, inl, inr, ℕ, ◌+◌, ◌^◌, ◌<◌, List, [], ◌∷◌, ◌++◌, length, Bool, true, false, Some, None, lit<, refl, sym, ◌∙◌, ap, subst, arith, length-append}
-use Rattle.std.specs.Prelude.{Option, Result, Ok, Err, is_some}
+use Rattle.std.specs.Prelude.{Option, IfSome, Result, Ok, Err, is_some}
 use Rattle.std.proofs.lemmas.List.{nil_from_length}
 use Rattle.kms_host.specs.Disk.{Disk, disk, reads, files, at_rest, MayLeave, IsImage}
 use Rattle.kms_host.specs.History.{History, then_call, Tells}
@@ -27,7 +27,7 @@ use Rattle.kms_serve.proofs.CrashLaws.{quiet_image}
 use Rattle.kms_serve.proofs.StoreCallLaws.{failed-append, none_failed, failed_once, before_each}
 use Rattle.kms_serve.specs.StoreCalls.{store_failed, IsUnfailedBefore}
 use Rattle.kms_host.proofs.ToldLaws.{tells_both}
-use Rattle.kms_serve.specs.Init.{tag_of, DrawsTag, naming_status, creation_status, IsFreshStore, naming, drawing, IsAlone, AreAsBefore, IsNoStore, IsUnderWay, IsInitEnd, Inits}
+use Rattle.kms_serve.specs.Init.{tag_of, DrawsTag, naming_status, creation_status, IsFreshStore, naming, drawing, IsAlone, HasFiles, MayBeOnFile, AreAsBefore, IsNoStore, IsUnderWay, IsInitEnd, Inits}
 use Rattle.kms_serve.specs.declared.status.Status.TheVariants as status
 
 -- A fresh store is an empty key manager.
@@ -106,9 +106,24 @@ pub record Reached (store : List ℕ) (apart : List Call) (was : History) (calls
   pub apart_is : apart_from_files calls ≡ apart
   pub same : AreAsBefore was calls
 
-still : (store : List ℕ) (was : History) (calls : List Call) → IsAlone store was (apart_from_files calls) → IsUnfailedBefore calls → AreAsBefore was calls → IsUnderWay store was calls
-still store was calls alone unfailed same = record {
+-- where files may be called, the newest call may be on one
+may_call : (store : List ℕ) (calls : List Call) → HasFiles store (apart_from_files calls) → MayBeOnFile store calls
+may_call store [] has = tt
+may_call store (Text name room bytes ∷ calls) has = tt
+may_call store (Listened address done ∷ calls) has = tt
+may_call store (Came line ∷ calls) has = tt
+may_call store (Attached name done ∷ calls) has = tt
+may_call store (Took line room bytes ∷ calls) has = tt
+may_call store (Gave line piece went ∷ calls) has = tt
+may_call store (Shut line ∷ calls) has = tt
+may_call store (OnFile file c ∷ calls) has = has
+may_call store (Told t ∷ calls) has = tt
+may_call store (Drew purpose bytes ∷ calls) has = tt
+
+still : (store : List ℕ) (was : History) (calls : List Call) → IsAlone store was (apart_from_files calls) → MayBeOnFile store calls → IsUnfailedBefore calls → AreAsBefore was calls → IsUnderWay store was calls
+still store was calls alone on_file unfailed same = record {
   alone = alone;
+  on_file = on_file;
   unfailed = unfailed;
   images = λ quiet image is. inl (same_standing was (then_calls was calls) same quiet image is);
   kept = λ s. same;
@@ -116,15 +131,15 @@ still store was calls alone unfailed same = record {
 
 named : (store : List ℕ) (done : Result (Unit {0}) NameFault) (was : History) (calls : List Call) → calls ≡ Attached store done ∷ [] → Reached store (naming store done) was calls
 named store done was calls is = subst (Reached store (naming store done) was) (sym is) (record {
-  each = (still store was (Attached store done ∷ []) (inr (inl (done, refl))) refl (λ f. refl), still store was [] (inl refl) refl (λ f. refl));
+  each = (still store was (Attached store done ∷ []) (inr (inl (done, refl))) tt refl (λ f. refl), still store was [] (inl refl) tt refl (λ f. refl));
   apart_is = refl;
   same = λ f. refl;
 })
 
 -- the files were read
-looked : (store : List ℕ) (apart : List Call) (was : History) (x y : List Call) → IsAlone store was apart → store_failed x ≡ false → IsUnfailedBefore y → Reached store apart was x
+looked : (store : List ℕ) (apart : List Call) (was : History) (x y : List Call) → IsAlone store was apart → HasFiles store apart → store_failed x ≡ false → IsUnfailedBefore y → Reached store apart was x
     → AtEach (λ z. IsUntouched (then_calls was x) (then_calls (then_calls was x) z)) y → Reached store apart was (y ++ x)
-looked store apart was x y alone sound before r each =
+looked store apart was x y alone has sound before r each =
     let mid = then_calls was x in
     let apart_at : (z : List Call) → IsUntouched mid (then_calls mid z) → apart_from_files (z ++ x) ≡ apart = λ z u. apart_more mid z x u.others ∙ r.apart_is in
     let same_at : (z : List Call) → IsUntouched mid (then_calls mid z) → AreAsBefore was (z ++ x) = λ z u f. ap (disk f) (then_calls-append was z x) ∙ u.disk f ∙ r.same f in
@@ -132,18 +147,18 @@ looked store apart was x y alone sound before r each =
     record {
       each = at_more (IsUnderWay store was) y x r.each
           (at_map (λ z. IsUntouched mid (then_calls mid z) × IsUnfailedBefore (z ++ x)) (λ z. IsUnderWay store was (z ++ x)) y
-          (λ z k. still store was (z ++ x) (subst (IsAlone store was) (sym (apart_at z k.0)) alone) k.1 (same_at z k.0))
+          (λ z k. still store was (z ++ x) (subst (IsAlone store was) (sym (apart_at z k.0)) alone) (may_call store (z ++ x) (subst (HasFiles store) (sym (apart_at z k.0)) has)) k.1 (same_at z k.0))
           (at_both (λ z. IsUntouched mid (then_calls mid z)) (λ z. IsUnfailedBefore (z ++ x)) y each (before_each y x before sound)));
       apart_is = apart_at y last;
       same = same_at y last;
     }
 
 -- a tag was drawn, or could not be
-drew : (store : List ℕ) (bytes : Option (List ℕ)) (was : History) (x : List Call) → IsNoStore was → store_failed x ≡ false → Reached store (naming store (Ok tt)) was x
+drew : (store : List ℕ) (bytes : Option (List ℕ)) (was : History) (x : List Call) → IfSome bytes (λ drawn. length drawn ≡ 8) → IsNoStore was → store_failed x ≡ false → Reached store (naming store (Ok tt)) was x
     → Reached store (drawing store bytes) was (Drew Tag bytes ∷ x)
-drew store bytes was x none sound r =
+drew store bytes was x eight none sound r =
     let apart : apart_from_files (Drew Tag bytes ∷ x) ≡ drawing store bytes = ap (λ (l : List Call). Drew Tag bytes ∷ l) r.apart_is in
-    record { each = (still store was (Drew Tag bytes ∷ x) (inr (inr (none, (bytes, apart)))) sound r.same, r.each); apart_is = apart; same = r.same }
+    record { each = (still store was (Drew Tag bytes ∷ x) (inr (inr (none, (bytes, eight, apart)))) tt sound r.same, r.each); apart_is = apart; same = r.same }
 
 -- There is no store, and its tag was drawn.
 pub record IsReady (store : List ℕ) (tag : ℕ) (was : History) (calls : List Call) : Type 0 where
@@ -163,7 +178,8 @@ creating store tag was x low ready z n unfailed =
     let apart : apart_from_files (z ++ x) ≡ drawing store (Some ready.bytes) = apart_more mid z x n.others ∙ r.apart_is in
     let before : standing_of (files mid) ≡ standing_of (files was) = ap standing_of (same_files was x r.same) in
     record {
-      alone = inr (inr (ready.none, (Some ready.bytes, apart)));
+      alone = inr (inr (ready.none, (Some ready.bytes, ready.eight, apart)));
+      on_file = may_call store (z ++ x) (inr (ready.bytes, apart));
       unfailed = unfailed;
       images = λ quiet image is. elim (n.images (still_quiet was x r.same quiet) image (subst (λ (h : History). IsImage h image) (then_calls-append was z x) is)) [
         | inl same ↦ inl (same ∙ before)
@@ -193,7 +209,7 @@ pub not_looked : {a b c : Option History} {E : Type 0} {e : E} (store : List ℕ
 not_looked {E = E} {e = e} store first look fails =
     since_since (Inits store status.StoreFault) (since_call first) (spanned (λ was h. IsUntouched was h) (tells_both look fails) (λ was now l. l.0.throughout))
     (λ was x y is l. record {
-      each = (looked store (naming store (Ok tt)) was x y (alone_named store was) (ap store_failed is) (failed_once (then_calls was x) y true l.1.1) (named store (Ok tt) was x is) l.0).each;
+      each = (looked store (naming store (Ok tt)) was x y (alone_named store was) (inl refl) (ap store_failed is) (failed_once (then_calls was x) y true l.1.1) (named store (Ok tt) was x is) l.0).each;
       end = fault_between (then_calls was x) y x l.1.1;
       faultless = λ other. absurd (other refl);
     })
@@ -211,7 +227,7 @@ since_looked {E = E} found store first look fails =
     (λ was x y is l.
     let r = named store (Ok tt) was x is in
     record {
-      reached = looked store (naming store (Ok tt)) was x y (alone_named store was) (ap store_failed is) (failed_once (then_calls was x) y false l.1.1) r l.0;
+      reached = looked store (naming store (Ok tt)) was x y (alone_named store was) (inl refl) (ap store_failed is) (failed_once (then_calls was x) y false l.1.1) r l.0;
       found_is = l.1.0.answer ∙ ap (λ (f : List ℕ × List ℕ). is_some (standing_of f)) (same_files was x r.same);
       faultless = faultless_more (then_calls was x) y x l.1.1 (ap failed_store_calls is);
     })
@@ -232,7 +248,7 @@ not_drawn found store is p draw =
     since_since (Inits store status.DrawFault) p (since_call draw)
     (λ was x y k e. subst (λ (z : List Call). Inits store status.DrawFault was (z ++ x)) (sym e)
     (let none = is_not_there (standing_of (files was)) (sym k.found_is ∙ is) in
-    let d = drew store None was x none (none_failed x k.faultless) k.reached in
+    let d = drew store None was x tt none (none_failed x k.faultless) k.reached in
     record {
       each = d.each;
       end = record { none = none; failed = d.apart_is; kept = d.same };
@@ -251,7 +267,7 @@ since_drawn found store tag is p draw =
       bytes = d.0;
       eight = d.1;
       tag_is = d.2;
-      reached = drew store (Some d.0) was x (is_not_there (standing_of (files was)) (sym k.found_is ∙ is)) (none_failed x k.faultless) k.reached;
+      reached = drew store (Some d.0) was x d.1 (is_not_there (standing_of (files was)) (sym k.found_is ∙ is)) (none_failed x k.faultless) k.reached;
       faultless = k.faultless;
     }))
 

@@ -2,13 +2,13 @@ pub mod AcknowledgedLaws
 pub mod CrashLaws
 pub mod EndLaws
 pub mod EventLaws
+pub mod FormLaws
 pub mod GiveLaws
 pub mod InitLaws
 pub mod InitRefused
 pub mod NextLaws
 pub mod OpeningLaws
 pub mod OwingLaws
-pub mod PhraseLaws
 pub mod PrepareLaws
 pub mod Refused
 pub mod ReplyLaws

@@ -47,12 +47,12 @@ named_once store (Err fault) = tt
 alone_names : (store : List ℕ) (was : History) (apart : List Call) → IsAlone store was apart → OnlyAttached store apart
 alone_names store was apart (inl e) = subst (OnlyAttached store) (sym e) tt
 alone_names store was apart (inr (inl e)) = subst (OnlyAttached store) (sym e.1) (named_once store e.0)
-alone_names store was apart (inr (inr e)) = subst (OnlyAttached store) (sym e.1.1) (refl, tt)
+alone_names store was apart (inr (inr e)) = subst (OnlyAttached store) (sym e.1.2) (refl, tt)
 
 alone_open : (store : List ℕ) (was : History) (apart : List Call) → IsAlone store was apart → is_shut 0 apart ≡ false
 alone_open store was apart (inl e) = ap (is_shut 0) e
 alone_open store was apart (inr (inl e)) = ap (is_shut 0) e.1
-alone_open store was apart (inr (inr e)) = ap (is_shut 0) e.1.1
+alone_open store was apart (inr (inr e)) = ap (is_shut 0) e.1.2
 
 pub served_next : IsServedNext
 served_next store s was calls i can =

@@ -26,10 +26,10 @@ use Rattle.kms_host.proofs.Moments.{at_last}
 use Rattle.kms_serve.specs.Answered.{Answered, InTurn}
 use Rattle.kms_serve.specs.RunStart.{RunStart, run_start, FromStore, history}
 use Rattle.kms_serve.specs.Events.{events}
-use Rattle.kms_serve.specs.Opening.{IsRefused, IsAsBefore, IsOpening, IsUnopened, IsOpenedBy, Opens, refusal_of}
+use Rattle.kms_serve.specs.Opening.{IsRefused, IsAsBefore, AreOpeningCalls, IsUnopened, IsOpenedBy, OpensStore, refusal_of}
 use Rattle.kms_serve.specs.Owing.{GoodAt, EndedAt}
 use Rattle.kms_serve.specs.Replies.{replies, before_newest, due}
-use Rattle.kms_serve.specs.StoreCalls.{store_failed, IsUnfailedBefore, OnlyFiles}
+use Rattle.kms_serve.specs.StoreCalls.{store_failed, IsUnfailedBefore, OnlyFiles, IfAttached}
 use Rattle.kms_serve.specs.Turns.{CanServe, serving_of}
 use Rattle.kms_serve.specs.declared.status.Status.{Status}
 use Rattle.kms_serve.specs.declared.status.Status.TheVariants as status
@@ -50,14 +50,14 @@ named_as_before : (was : History) (name : List ℕ) (done : Result (Unit {0}) Na
 named_as_before was name done = record { images = λ quiet image is. quiet_image was image quiet (record { file_0 = is.file_0; file_1 = is.file_1 }); none = λ no f. refl; other = λ s stands f elsewhere. refl; syncs = omega arith }
 
 pub unnamed : {a c : Option History} (store : List ℕ) (fault : NameFault) (s : Status) → Tells a c (λ was now. now ≡ then_call was (Attached store (Err fault)))
-    → ((was : History) → IsRefused s was (Attached store (Err fault) ∷ [])) → Since a c (λ was calls. Opens store (Err s) was calls)
+    → ((was : History) → IsRefused s was (Attached store (Err fault) ∷ [])) → Since a c (λ was calls. OpensStore store (Err s) was calls)
 unnamed store fault s told why =
-    since_told (λ was calls. Opens store (Err s) was calls) told
+    since_told (λ was calls. OpensStore store (Err s) was calls) told
     (λ was now is. (
       Attached store (Err fault) ∷ [],
       is,
       record {
-        opening = record { done = Err fault; on_files = []; made = refl; only = tt; unfailed = refl; each = (named_as_before was store (Err fault), before_all was) };
+        opening = record { done = Err fault; on_files = []; made = refl; only = tt; attached = refl; unfailed = refl; each = (named_as_before was store (Err fault), before_all was) };
         why = why was;
       },
     ))
@@ -77,13 +77,14 @@ module _ (store : List ℕ) (was now : History) where
   before_now : (t : Throughout (KeepsStanding mid) mid now) (failed : Bool) → Fails failed mid now → IsUnfailedBefore (t.more ++ Attached store (Ok tt) ∷ [])
   before_now t failed fails = before_more t.more (Attached store (Ok tt) ∷ []) (failed_once mid t.more failed (subst (Fails failed mid) t.extends fails)) refl
 
-  pub opening_of : (t : Throughout (KeepsStanding mid) mid now) (failed : Bool) → Fails failed mid now → IsOpening store was (t.more ++ Attached store (Ok tt) ∷ [])
+  pub opening_of : (t : Throughout (KeepsStanding mid) mid now) (failed : Bool) → Fails failed mid now → AreOpeningCalls store was (t.more ++ Attached store (Ok tt) ∷ [])
   opening_of t failed fails = record {
     unfailed = before_now t failed fails;
     done = Ok tt;
     on_files = t.more;
     made = refl;
     only = only_files mid t.more (ap (λ (h : History). others h) (sym t.extends) ∙ (at_last (KeepsStanding mid) mid now t).others);
+    attached = tt;
     each = at_more (λ x. IsAsBefore was (then_calls was x)) t.more (Attached store (Ok tt) ∷ []) (named_as_before was store (Ok tt), before_all was)
         (at_map (λ x. KeepsStanding mid (then_calls mid x)) (λ x. IsAsBefore was (then_calls was (x ++ Attached store (Ok tt) ∷ []))) t.more
         (λ x k. subst (IsAsBefore was) (sym (then_calls-append was x (Attached store (Ok tt) ∷ []))) (kept (then_calls mid x) k)) t.each);
@@ -107,7 +108,7 @@ module _ (store : List ℕ) (was now : History) where
   refused_by start.NoMemory calls s fails = fails
 
   pub unstarted : (fault : StartFault) (s : Status) → s ≡ refusal_of fault → Starts (Err fault) mid now → Fails (is_failed_start (failure fault)) mid now
-      → (calls : List Call) × (now ≡ then_calls was calls) × Opens store (Err s) was calls
+      → (calls : List Call) × (now ≡ then_calls was calls) × OpensStore store (Err s) was calls
   unstarted fault s is starts fails =
       let t = starts.throughout in (
         t.more ++ Attached store (Ok tt) ∷ [],
@@ -118,7 +119,7 @@ module _ (store : List ℕ) (was now : History) where
         },
       )
 
-  pub started_by : (engine : Held) → Starts (Ok engine) mid now → Fails false mid now → (calls : List Call) × (now ≡ then_calls was calls) × Opens store (Ok engine) was calls
+  pub started_by : (engine : Held) → Starts (Ok engine) mid now → Fails false mid now → (calls : List Call) × (now ≡ then_calls was calls) × OpensStore store (Ok engine) was calls
   started_by engine starts fails =
       let t = starts.throughout in
       let a = starts.answer in (
@@ -144,22 +145,22 @@ module _ (store : List ℕ) (was now : History) where
       }
 
 some_calls : List ℕ → Result Held Status → History → History → Type 0
-some_calls store result was now = (calls : List Call) × (now ≡ then_calls was calls) × Opens store result was calls
+some_calls store result was now = (calls : List Call) × (now ≡ then_calls was calls) × OpensStore store result was calls
 
 pub opened_by : {a d c : Option History} (store : List ℕ) (engine : Held) → Tells a d (λ was now. now ≡ then_call was (Attached store (Ok tt)))
-    → Tells d c (Starts (Ok engine)) → Tells d c (Fails false) → Since a c (λ was calls. Opens store (Ok engine) was calls)
+    → Tells d c (Starts (Ok engine)) → Tells d c (Fails false) → Since a c (λ was calls. OpensStore store (Ok engine) was calls)
 unfolding some_calls
 opened_by store engine attached starts fails =
-    since_told (λ was calls. Opens store (Ok engine) was calls)
+    since_told (λ was calls. OpensStore store (Ok engine) was calls)
     (tells_then (some_calls store (Ok engine)) attached (tells_both starts fails)
     (λ was mid now is k. started_by store was now engine (subst (λ (h : History). Starts (Ok engine) h now) is k.0) (subst (λ (h : History). Fails false h now) is k.1)))
     (λ was now r. r)
 
 pub refused_opening : {a d c : Option History} (store : List ℕ) (fault : StartFault) (s : Status) → s ≡ refusal_of fault → Tells a d (λ was now. now ≡ then_call was (Attached store (Ok tt)))
-    → Tells d c (Starts (Err fault)) → Tells d c (Fails (is_failed_start (failure fault))) → Since a c (λ was calls. Opens store (Err s) was calls)
+    → Tells d c (Starts (Err fault)) → Tells d c (Fails (is_failed_start (failure fault))) → Since a c (λ was calls. OpensStore store (Err s) was calls)
 unfolding some_calls
 refused_opening store fault s status attached starts fails =
-    since_told (λ was calls. Opens store (Err s) was calls)
+    since_told (λ was calls. OpensStore store (Err s) was calls)
     (tells_then (some_calls store (Err s)) attached (tells_both starts fails)
     (λ was mid now is k. unstarted store was now fault s status (subst (λ (h : History). Starts (Err fault) h now) is k.0) (subst (λ (h : History). Fails (is_failed_start (failure fault)) h now) is k.1)))
     (λ was now r. r)
@@ -202,42 +203,43 @@ module _ (endpoint : List ℕ) (b : RunStart) (stands : Stands (files b.was) b.f
     few_syncs = rw none (omega (arith, before.syncs));
   }
 
-  pub opening_each : (on_files : List Call) (done : Result (Unit {0}) NameFault) → OnlyFiles on_files → IsUnfailedBefore (on_files ++ Attached b.store done ∷ [])
+  pub opening_each : (on_files : List Call) (done : Result (Unit {0}) NameFault) → OnlyFiles on_files → IfAttached done on_files → IsUnfailedBefore (on_files ++ Attached b.store done ∷ [])
       → AtEach (λ x. IsAsBefore b.was (then_calls b.was x)) (on_files ++ Attached b.store done ∷ []) → AtEach (Answered endpoint b []) (on_files ++ Attached b.store done ∷ [])
-  opening_each [] done only unfailed each = (
+  opening_each [] done only attached unfailed each = (
     answered_as_before (Attached b.store done ∷ []) refl refl (λ line. refl) (record { of_words = refl; at_first = refl }) tt each.0,
     answered_as_before [] refl refl (λ line. refl) tt tt each.1,
   )
-  opening_each (Text name room bytes ∷ on_files) done only unfailed each = absurd only
-  opening_each (Listened address heard ∷ on_files) done only unfailed each = absurd only
-  opening_each (Came next ∷ on_files) done only unfailed each = absurd only
-  opening_each (Attached name d ∷ on_files) done only unfailed each = absurd only
-  opening_each (Took line room bytes ∷ on_files) done only unfailed each = absurd only
-  opening_each (Gave line piece went ∷ on_files) done only unfailed each = absurd only
-  opening_each (Shut line ∷ on_files) done only unfailed each = absurd only
-  opening_each (OnFile file c ∷ on_files) done only unfailed each = (
-    answered_as_before (OnFile file c ∷ (on_files ++ Attached b.store done ∷ [])) (no_events on_files done only)
-        (same_by_files times (λ f d calls. refl) on_files (Attached b.store done ∷ []) only) (λ line. nothing line on_files done only)
+  opening_each (Text name room bytes ∷ on_files) done only attached unfailed each = absurd only
+  opening_each (Listened address heard ∷ on_files) done only attached unfailed each = absurd only
+  opening_each (Came next ∷ on_files) done only attached unfailed each = absurd only
+  opening_each (Attached name d ∷ on_files) done only attached unfailed each = absurd only
+  opening_each (Took line room bytes ∷ on_files) done only attached unfailed each = absurd only
+  opening_each (Gave line piece went ∷ on_files) done only attached unfailed each = absurd only
+  opening_each (Shut line ∷ on_files) done only attached unfailed each = absurd only
+  opening_each (OnFile file c ∷ on_files) (Err fault) only attached unfailed each = absurd (cc)
+  opening_each (OnFile file c ∷ on_files) (Ok done) only attached unfailed each = (
+    answered_as_before (OnFile file c ∷ (on_files ++ Attached b.store (Ok done) ∷ [])) (no_events on_files (Ok done) only)
+        (same_by_files times (λ f d calls. refl) on_files (Attached b.store (Ok done) ∷ []) only) (λ line. nothing line on_files (Ok done) only)
         (record {
-          given = λ line. nothing line on_files done only ∙ sym (ap (λ es. replies line endpoint b.first (before_newest es) []) (no_events on_files done only));
-          needed = inl (done, same_by_files apart_from_files (λ f d calls. refl) on_files (Attached b.store done ∷ []) only);
-          sound = same_by_files (failed_on 0) (λ f d calls. refl) on_files (Attached b.store done ∷ []) only;
+          given = λ line. nothing line on_files (Ok done) only ∙ sym (ap (λ es. replies line endpoint b.first (before_newest es) []) (no_events on_files (Ok done) only));
+          needed = inl (same_by_files apart_from_files (λ f d calls. refl) on_files (Attached b.store (Ok done) ∷ []) only);
+          sound = same_by_files (failed_on 0) (λ f d calls. refl) on_files (Attached b.store (Ok done) ∷ []) only;
           unfailed = unfailed;
         }) tt each.0,
-    opening_each on_files done only (unfailed_before (on_files ++ Attached b.store done ∷ []) unfailed) each.1,
+    opening_each on_files (Ok done) only tt (unfailed_before (on_files ++ Attached b.store (Ok done) ∷ []) unfailed) each.1,
   )
-  opening_each (Told t ∷ on_files) done only unfailed each = absurd only
-  opening_each (Drew purpose bytes ∷ on_files) done only unfailed each = absurd only
+  opening_each (Told t ∷ on_files) done only attached unfailed each = absurd only
+  opening_each (Drew purpose bytes ∷ on_files) done only attached unfailed each = absurd only
 
-each_of : (endpoint store : List ℕ) (was : History) (first : State) (steps : ℕ) (calls : List Call) → Stands (files was) first steps → (o : IsOpening store was calls)
+each_of : (endpoint store : List ℕ) (was : History) (first : State) (steps : ℕ) (calls : List Call) → Stands (files was) first steps → (o : AreOpeningCalls store was calls)
     → AtEach (Answered endpoint (run_start store was first steps) []) calls
 each_of endpoint store was first steps calls stands o =
     subst (AtEach (Answered endpoint (run_start store was first steps) [])) (sym o.made)
-    (opening_each endpoint (run_start store was first steps) stands o.on_files o.done o.only (subst IsUnfailedBefore o.made o.unfailed) (subst (AtEach (λ x. IsAsBefore was (then_calls was x))) o.made o.each))
+    (opening_each endpoint (run_start store was first steps) stands o.on_files o.done o.only o.attached (subst IsUnfailedBefore o.made o.unfailed) (subst (AtEach (λ x. IsAsBefore was (then_calls was x))) o.made o.each))
 
 -- what no opening does
 same_opening : {A : Type 0} (F : List Call → A) (store : List ℕ) (was : History) (calls : List Call) → ((file : ℕ) (c : FileCall) (x : List Call) → F (OnFile file c ∷ x) ≡ F x)
-    → (o : IsOpening store was calls) → F calls ≡ F (Attached store o.done ∷ [])
+    → (o : AreOpeningCalls store was calls) → F calls ≡ F (Attached store o.done ∷ [])
 same_opening F store was calls skips o = ap F o.made ∙ same_by_files F skips o.on_files (Attached store o.done ∷ []) o.only
 
 -- before the first turn

@@ -30,7 +30,7 @@ use Rattle.kms_serve.specs.Events.{LineEvent, events, event, event_at, most}
 use Rattle.kms_serve.specs.Replies.{asked, state_by, steps_by, reply_to, replies, before_newest, fault_on, due}
 use Rattle.kms_serve.specs.Answered.{Answered, InTurn, MayTake, MayGive, MayShut, IsServed, MayCallFile}
 use Rattle.kms_serve.specs.Ends.{AllGiven, AllKept, EndsUnreadable}
-use Rattle.kms_serve.specs.Owed.{Prepares, Settled, OnlyLeft, Gives, GivesFault, owed_bytes, is_fault, steps_at}
+use Rattle.kms_serve.specs.Owed.{PreparesReply, Settled, OnlyLeft, Gives, GivesFault, owed_bytes, is_fault, steps_at}
 use Rattle.kms_serve.specs.Opening.{IsAsBefore}
 use Rattle.kms_serve.specs.Owing.{on_line, OwingAt, GoodAt, EndedAt}
 use Rattle.kms_serve.specs.StoreCalls.{store_failed, IsUnfailedBefore, OnlyFiles}
@@ -571,7 +571,7 @@ pub owing_prepared : (endpoint : List ℕ) (b : RunStart) (s t : Serving) (now :
     → after most t.count (taken 0 x) ≡ Some now
     → is_fault owed ≡ false
     → GoodAt endpoint b s x
-    → Prepares endpoint s.engine t.engine sv s.count owed (history b x) y
+    → PreparesReply endpoint s.engine t.engine sv s.count owed (history b x) y
     → OwingAt endpoint b t now (owed_bytes owed) (y ++ x)
 owing_prepared endpoint b s t now owed sv x y is count place held well o p =
     let next = served_at-next s.count (taken 0 x) s.reader.held sv o.held is in
@@ -585,7 +585,7 @@ pub faulting_prepared : (endpoint : List ℕ) (b : RunStart) (s : Serving) (then
     → served (front s.reader.held) ≡ Some sv
     → is_fault owed ≡ true
     → GoodAt endpoint b s x
-    → Prepares endpoint s.engine then sv s.count owed (history b x) y
+    → PreparesReply endpoint s.engine then sv s.count owed (history b x) y
     → FaultingAt endpoint b (owed_bytes owed) (y ++ x)
 faulting_prepared endpoint b s then owed sv x y is fault o p =
     let next = served_at-next s.count (taken 0 x) s.reader.held sv o.held is in
@@ -601,7 +601,7 @@ pub refusing_prepared : (endpoint : List ℕ) (b : RunStart) (s t : Serving) (ow
     → t.reader ≡ s.reader
     → is_fault owed ≡ false
     → GoodAt endpoint b s x
-    → Prepares endpoint s.engine t.engine Unreadable s.count owed (history b x) y
+    → PreparesReply endpoint s.engine t.engine Unreadable s.count owed (history b x) y
     → RefusingAt endpoint b t s.reader.passed (owed_bytes owed) (y ++ x)
 refusing_prepared endpoint b s t owed x y bad count reader well o p =
     let held : after most t.count (taken 0 x) ≡ Some Broken =
@@ -749,7 +749,7 @@ ended_took_fault endpoint b s n size part calls g =
       end = (refl, kept_same b g.marks s.engine calls (Took 0 n None ∷ calls) (same_took (history b calls) 0 n None) refl g.state g.settled g.quiet g.unfailed, g.unfinished);
     }
 
--- the line ended behind a message, or inside one
+-- the line ended after a message, or inside one
 shut_after : (endpoint : List ℕ) (b : RunStart) (s : Serving) (n : ℕ) (bytes : List ℕ) (calls : List Call) → n ≡ 65536 → bytes ≡ [] → front s.reader.held ≡ Part → (g : GoodAt endpoint b s calls)
     → AtEach (Answered endpoint b g.marks) (Shut 0 ∷ Took 0 n (Some bytes) ∷ calls)
 shut_after endpoint b s n bytes calls size none part g =

@@ -18,14 +18,14 @@ use Rattle.kms_journal.specs.Standing.{Standing}
 use Rattle.kms_world.specs.State.{State}
 use Rattle.kms_core.specs.Settling.{IsOpened, IsSettledOrAll, Settles}
 use Rattle.kms_core.specs.Steps.{Held, IsIdle, IsSettled}
-use Rattle.kms_core.specs.Waiting.{Spelled, Keeping, IsAhead, count_of}
+use Rattle.kms_core.specs.Waiting.{Spelled, Keeping, WaitingLead, count_of}
 use Rattle.kms_core.proofs.StandsLaws.{one_state}
 use Rattle.kms_host.specs.Disk.{files}
 use Rattle.kms_http.specs.Reply.{fault_reply_of}
 use Rattle.kms_http.specs.Stream.{Served}
 use Rattle.kms_http.specs.declared.fault.FaultReply.TheVariants.{F1}
 use Rattle.kms_serve.specs.Events.{event}
-use Rattle.kms_serve.specs.Owed.{Waits, Responds, Settled, Prepares, owed_bytes, is_fault, steps_at}
+use Rattle.kms_serve.specs.Owed.{Waits, Responds, Settled, PreparesReply, owed_bytes, is_fault, steps_at}
 use Rattle.kms_serve.specs.StoreCalls.{store_failed, IsUnfailedBefore, OnlyFiles}
 use Rattle.kms_serve.specs.Turns.{CanServe}
 use Rattle.kms_serve.specs.declared.owed.Owed.{Owed}
@@ -49,7 +49,7 @@ pub record Calls (before after : Held) (steps more : ℕ) (failed : Bool) (mid n
   pub settled : Settled before after steps more failed mid on_files
 
 -- no step waits where their number is 0
-waiting_none : (w : Option Spelled) (s t : State) → count_of w ≡ 0 → IsAhead w s t → w ≡ None
+waiting_none : (w : Option Spelled) (s t : State) → count_of w ≡ 0 → WaitingLead w s t → w ≡ None
 waiting_none None s t none ahead = refl
 waiting_none (Some w) s t none ahead = absurd (omega (arith, none, ahead.1.count, ahead.1.admitted.some))
 
@@ -152,9 +152,9 @@ pub prepared : {a c : Option History} (endpoint : List ℕ) (before then after :
     → after.state ≡ then.state
     → is_fault final ≡ failed → (failed ≡ false → final ≡ owed) → (failed ≡ true → owed_bytes final ≡ fault_reply_of F1)
     → Tells a c (Settling before after time (steps_at before (event n time sv) r.mark) failed)
-    → Since a c (λ was calls. Prepares endpoint before after sv n final was calls)
+    → Since a c (λ was calls. PreparesReply endpoint before after sv n final was calls)
 prepared endpoint before then after sv n time owed final failed r same fault well bad settled =
-    since_told (λ was calls. Prepares endpoint before after sv n final was calls) settled
+    since_told (λ was calls. PreparesReply endpoint before after sv n final was calls) settled
     (λ was now k.
     let f = k.calls in
     let more = steps_at before (event n time sv) r.mark in (
@@ -199,7 +199,7 @@ pub waits_by : (a b after : Held) (m n : ℕ) → b.store ≡ a.store → b.stat
 waits_by a b after m n store state steps w = record {
   journal = w.journal ∙ ap (λ (k : Keeping). k.journal) store;
   count = w.count ∙ steps;
-  ahead = subst (λ (q : State). IsAhead after.store.waiting q after.state) state w.ahead;
+  ahead = subst (λ (q : State). WaitingLead after.store.waiting q after.state) state w.ahead;
 }
 
 -- What calls on lines leave as it is.

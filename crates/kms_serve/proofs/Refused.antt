@@ -1,7 +1,7 @@
 -- Runs that the theorem refuses: from each wrong list of calls, the newest first, and the theorem follows anything.
 use Rattle.std.proofs.lemmas.List.{same_from_push}
 use Rattle.std.specs.Prelude.{◌||◌}
-use Rattle.std.proofs.Common.{◌≡◌, ℕ, ◌+◌, ◌<◌, List, [], ◌∷◌, ◌++◌, length, take, Bool, true, false, Option, Some, None, Result, Ok, refl, sym, ap, ◌∙◌, subst, arith, length-append, inl, inr}
+use Rattle.std.proofs.Common.{◌≡◌, ℕ, ◌+◌, ◌<◌, List, [], ◌∷◌, ◌++◌, length, take, Bool, true, false, Option, Some, None, Result, Ok, Err, refl, sym, ap, ◌∙◌, subst, arith, length-append, inl, inr}
 use Rattle.kms_host.specs.declared.call.Call.{Call}
 use Rattle.kms_host.specs.Disk.{files, IsImage}
 use Rattle.kms_host.specs.History.{History}
@@ -38,9 +38,9 @@ gives_at_once endpoint b s line piece went c =
     let none : 0 ≡ length (piece ++ next.rest) = ap length next.next in
     omega (arith, next.some, none, length-append piece next.rest)
 
--- it takes again behind a call that failed
-pub takes_behind_a_fault : (endpoint : List ℕ) (b : RunStart) (s : Status) (room : ℕ) (bytes : Option (List ℕ)) → Serves endpoint b s (Took 0 room bytes ∷ Took 0 room None ∷ []) → ⊥
-takes_behind_a_fault endpoint b s room bytes c =
+-- it takes again after a call that failed
+pub takes_after_a_fault : (endpoint : List ℕ) (b : RunStart) (s : Status) (room : ℕ) (bytes : Option (List ℕ)) → Serves endpoint b s (Took 0 room bytes ∷ Took 0 room None ∷ []) → ⊥
+takes_after_a_fault endpoint b s room bytes c =
     let still : true ≡ false = (at_the_end endpoint b s (Took 0 room bytes ∷ Took 0 room None ∷ []) c).still in cc
 
 -- it takes a byte at a time
@@ -53,15 +53,15 @@ pub takes_from_another_line : (endpoint : List ℕ) (b : RunStart) (s : Status) 
 takes_from_another_line endpoint b s line room bytes other c =
     let of_line = (at_the_end endpoint b s (Took line room bytes ∷ []) c).in_turn.of_line in omega (arith, of_line, other)
 
--- it takes again behind the line's end
-pub takes_behind_the_end : (endpoint : List ℕ) (b : RunStart) (s : Status) (room : ℕ) (bytes : Option (List ℕ)) → Serves endpoint b s (Took 0 room bytes ∷ Took 0 room (Some []) ∷ []) → ⊥
-takes_behind_the_end endpoint b s room bytes c =
+-- it takes again after the line's end
+pub takes_after_the_end : (endpoint : List ℕ) (b : RunStart) (s : Status) (room : ℕ) (bytes : Option (List ℕ)) → Serves endpoint b s (Took 0 room bytes ∷ Took 0 room (Some []) ∷ []) → ⊥
+takes_after_the_end endpoint b s room bytes c =
     let unended : true ≡ false = (at_the_end endpoint b s (Took 0 room bytes ∷ Took 0 room (Some []) ∷ []) c).in_turn.unended in cc
 
--- it gives again behind a call that failed
-pub gives_behind_a_fault : (endpoint : List ℕ) (b : RunStart) (s : Status) (piece again : List ℕ) (went : Option ℕ) (calls : List Call)
+-- it gives again after a call that failed
+pub gives_after_a_fault : (endpoint : List ℕ) (b : RunStart) (s : Status) (piece again : List ℕ) (went : Option ℕ) (calls : List Call)
     → Serves endpoint b s (Gave 0 again went ∷ Gave 0 piece None ∷ calls) → ⊥
-gives_behind_a_fault endpoint b s piece again went calls c =
+gives_after_a_fault endpoint b s piece again went calls c =
     let still : true ≡ false = (at_the_end endpoint b s (Gave 0 again went ∷ Gave 0 piece None ∷ calls) c).still in cc
 
 -- it gives nothing, as a part of a reply
@@ -133,7 +133,7 @@ pub syncs_again : (endpoint : List ℕ) (b : RunStart) (s : Status) (store : Lis
     → Serves endpoint b s (OnFile 0 (Synced false) ∷ OnFile 0 (Synced false) ∷ Attached store (Ok tt) ∷ []) → ⊥
 syncs_again endpoint b s store = goes_on_after_a_fault endpoint b s 0 0 (Synced false) (Synced false) (Attached store (Ok tt) ∷ []) refl
 
--- it ends well and leaves a request's step behind
+-- it ends well and leaves a request's step after
 pub ends_without_a_step : (endpoint : List ℕ) (b : RunStart) (calls : List Call) → (c : Serves endpoint b status.Done calls) → Stands (files (history b calls)) b.first b.steps
     → 0 < steps_by b.first (events calls) c.marks → ⊥
 ends_without_a_step endpoint b calls c stands stores =
@@ -144,6 +144,14 @@ ends_without_a_step endpoint b calls c stands stores =
 pub store_fault_without_a_call : (endpoint : List ℕ) (b : RunStart) → Serves endpoint b status.StoreFault [] → ⊥
 store_fault_without_a_call endpoint b c = let failed : false ≡ true = c.end.0.failed in cc
 
--- it answers that it is out of memory behind a call that failed
+-- it answers that it is out of memory after a call that failed
 pub fault_as_out_of_memory : (endpoint : List ℕ) (b : RunStart) (room : ℕ) (calls : List Call) → Serves endpoint b status.NoMemory (Took 0 room None ∷ calls) → ⊥
 fault_as_out_of_memory endpoint b room calls c = let sound : true ≡ false = c.end.3 in cc
+
+-- it calls a file though the store couldn't be attached
+pub calls_a_file_unattached : (endpoint : List ℕ) (b : RunStart) (s : Status) (f : ℕ) (c : FileCall) (fault : NameFault)
+    → Serves endpoint b s (OnFile f c ∷ Attached b.store (Err fault) ∷ []) → ⊥
+calls_a_file_unattached endpoint b s f c fault v = elim (at_the_end endpoint b s (OnFile f c ∷ Attached b.store (Err fault) ∷ []) v).in_turn.needed [
+  | inl opening ↦ cc
+  | inr step ↦ omega (arith, step)
+]

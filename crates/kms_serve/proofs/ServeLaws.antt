@@ -11,7 +11,7 @@ use Rattle.kms_core.specs.Steps.{Held, IsSettled}
 use Rattle.kms_core.proofs.StandsLaws.{one_state, some_is}
 use Rattle.kms_serve.specs.RunStart.{run_start, FromStore}
 use Rattle.kms_serve.specs.Init.{IsInitDone, IsInitStatus}
-use Rattle.kms_serve.specs.Opening.{BeginsWith, IsOpening, Opens, IsRefusalStatus}
+use Rattle.kms_serve.specs.Opening.{BeginsWith, AreOpeningCalls, OpensStore, IsRefusalStatus}
 use Rattle.kms_serve.specs.Owing.{GoodAt}
 use Rattle.kms_serve.specs.Theorem.{RunPromise, Carries, IsPipeStatus, IsUnfaulted}
 use Rattle.kms_serve.specs.Turns.{Good, HasEnded, CanServe, IsServedEnd, serving_of}
@@ -55,10 +55,10 @@ record Stood (store : List ℕ) (engine : Held) (was : History) (calls : List Ca
   stands : Stands (files was) engine.state steps
   attached : BeginsWith store calls
 
-begins_with : (store : List ℕ) (was : History) (calls later : List Call) → IsOpening store was calls → BeginsWith store (later ++ calls)
+begins_with : (store : List ℕ) (was : History) (calls later : List Call) → AreOpeningCalls store was calls → BeginsWith store (later ++ calls)
 begins_with store was calls later o = (o.done, later ++ o.on_files, ap (λ (l : List Call). later ++ l) o.made ∙ sym (append_assoc later o.on_files (Attached store o.done ∷ [])))
 
-pub carried : {a d c : Option History} (endpoint store : List ℕ) (engine : Held) (s : Status) → Since a d (λ was calls. Opens store (Ok engine) was calls) → WhereTold d (CanServe engine)
+pub carried : {a d c : Option History} (endpoint store : List ℕ) (engine : Held) (s : Status) → Since a d (λ was calls. OpensStore store (Ok engine) was calls) → WhereTold d (CanServe engine)
     → ((store : List ℕ) (start : Option History) → Good endpoint store start d (serving_of engine) → HasEnded endpoint store start c s)
     → Since a c (λ was calls. Carries endpoint store s was calls)
 carried {a} {d} {c} endpoint store engine s opens ready ended =
@@ -73,7 +73,7 @@ carried {a} {d} {c} endpoint store engine s opens ready ended =
       refuses = λ none. absurd (none engine.state k.1.steps k.1.stands);
     })
 
-pub refused : {a c : Option History} (endpoint store : List ℕ) (s : Status) → Since a c (λ was calls. Opens store (Err s) was calls) → Since a c (λ was calls. Carries endpoint store s was calls)
+pub refused : {a c : Option History} (endpoint store : List ℕ) (s : Status) → Since a c (λ was calls. OpensStore store (Err s) was calls) → Since a c (λ was calls. Carries endpoint store s was calls)
 refused endpoint store s opens =
     since_weaker (λ was calls. Carries endpoint store s was calls) opens
     (λ was calls u. record {

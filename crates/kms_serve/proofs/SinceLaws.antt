@@ -15,7 +15,7 @@ use Rattle.kms_http.specs.Stream.After.{Going, Over}
 use Rattle.kms_http.specs.Stream.Served.{Asking, Unreadable}
 use Rattle.kms_serve.specs.Events.{most}
 use Rattle.kms_serve.specs.RunStart.{run_start, FromStore}
-use Rattle.kms_serve.specs.Owed.{Prepares, Gives, GivesFault, owed_bytes, is_fault}
+use Rattle.kms_serve.specs.Owed.{PreparesReply, Gives, GivesFault, owed_bytes, is_fault}
 use Rattle.kms_serve.specs.Owing.{OwingAt, GoodAt, EndedAt}
 use Rattle.kms_serve.specs.Turns.{Good, HasEnded, Owing}
 use Rattle.kms_serve.specs.declared.owed.Owed.{Owed}
@@ -33,7 +33,7 @@ pub since_answered : {a d c : Option History} (endpoint store : List ℕ) (s t :
     → last ≡ (close || nat_eq (s.count + 1) most)
     → is_fault owed ≡ false
     → Good endpoint store a d s
-    → Since d c (λ was calls. Prepares endpoint s.engine t.engine (Asking q close) s.count owed was calls)
+    → Since d c (λ was calls. PreparesReply endpoint s.engine t.engine (Asking q close) s.count owed was calls)
     → Owing endpoint store a c t (stand last t.reader.held) (owed_bytes owed)
 since_answered endpoint store s t q close last owed whole place count is_last well good prepared =
     since_since (λ was calls. FromStore store was (λ b. OwingAt endpoint b t (stand last t.reader.held) (owed_bytes owed) calls)) good prepared
@@ -49,7 +49,7 @@ pub since_refused : {a d c : Option History} (endpoint store : List ℕ) (s t : 
     → t.reader ≡ s.reader
     → is_fault owed ≡ false
     → Good endpoint store a d s
-    → Since d c (λ was calls. Prepares endpoint s.engine t.engine Unreadable s.count owed was calls)
+    → Since d c (λ was calls. PreparesReply endpoint s.engine t.engine Unreadable s.count owed was calls)
     → Since a c (λ was calls. FromStore store was (λ b. RefusingAt endpoint b t s.reader.passed (owed_bytes owed) calls))
 since_refused endpoint store s t owed bad count reader well good prepared =
     since_since (λ was calls. FromStore store was (λ b. RefusingAt endpoint b t s.reader.passed (owed_bytes owed) calls)) good prepared
@@ -60,7 +60,7 @@ pub since_faulted : {a d c e : Option History} (endpoint store : List ℕ) (s : 
     → served (front s.reader.held) ≡ Some sv
     → is_fault owed ≡ true
     → Good endpoint store a d s
-    → Since d c (λ was calls. Prepares endpoint s.engine then sv s.count owed was calls)
+    → Since d c (λ was calls. PreparesReply endpoint s.engine then sv s.count owed was calls)
     → Since c e (λ was calls. GivesFault (owed_bytes owed) calls)
     → HasEnded endpoint store a e status.StoreFault
 since_faulted endpoint store s then sv owed is fault good prepared given =

@@ -1,10 +1,9 @@
 -- What holds at each moment of a run.
-use Rattle.std.specs.Prelude.{◌≡◌, ◌⊎◌, ℕ, ◌+◌, ◌*◌, ◌≤◌, ◌<◌, List, [], ◌∷◌, ◌++◌, length, true, false, Some, Result}
+use Rattle.std.specs.Prelude.{◌≡◌, ◌⊎◌, ℕ, ◌+◌, ◌*◌, ◌≤◌, ◌<◌, List, [], ◌∷◌, ◌++◌, length, true, false, Some, Ok}
 use Rattle.kms_host.specs.Line.{taken, sent, times, at_end, failed_on, is_shut, IsStill}
 use Rattle.kms_host.specs.Store.{apart_from_files, syncs}
 use Rattle.kms_host.specs.declared.call.Call.{Call}
 use Rattle.kms_host.specs.declared.call.Call.TheVariants.{Text, Listened, Came, Attached, Took, Gave, Shut, OnFile, Told, Drew}
-use Rattle.kms_host.specs.declared.call.NameFault.{NameFault}
 use Rattle.kms_model.specs.declared.event.Mark.{Mark}
 use Rattle.kms_http.specs.Stream.{front, after}
 use Rattle.kms_http.specs.Stream.Front.{Part}
@@ -54,11 +53,11 @@ pub record MayAttach (start : RunStart) (name : List ℕ) (calls : List Call) : 
   pub of_words : name ≡ start.store
   pub at_first : calls ≡ []
 
--- A file is called while the store is opened, or when the newest request has a step; and when the replies to all requests but
+-- A file is called while the store is opened, once it was attached, or when the newest request has a step; and when the replies to all requests but
 -- the newest were given whole, and nothing more, and no call of the line failed, nor one of the store.
 pub record MayCallFile (endpoint : List ℕ) (start : RunStart) (marks : List Mark) (calls : List Call) : Type 0 where
   pub given : (line : ℕ) → sent line calls ≡ replies line endpoint start.first (before_newest (events calls)) marks
-  pub needed : ((done : Result (Unit {0}) NameFault) × (apart_from_files calls ≡ Attached start.store done ∷ []))
+  pub needed : (apart_from_files calls ≡ Attached start.store (Ok tt) ∷ [])
       ⊎ (steps_by start.first (before_newest (events calls)) marks < steps_by start.first (events calls) marks)
   pub sound : failed_on 0 calls ≡ false
   pub unfailed : store_failed calls ≡ false

@@ -30,7 +30,7 @@ pub record AllKept (start : RunStart) (marks : List Mark) (calls : List Call) : 
       → Stands image (state_by start.first (events calls) marks) (start.steps + steps_by start.first (events calls) marks)
   pub unfailed : store_failed calls ≡ false
 
--- The line was read to its end, and the bytes behind its last message are a part of one, which begins at this place.
+-- The line was read to its end, and the bytes after its last message are a part of one, which begins at this place.
 pub record EndsInside (place : ℕ) (calls : List Call) : Type 0 where
   pub rest : List ℕ
   pub ended : at_end 0 calls ≡ true
@@ -48,7 +48,7 @@ pub record EndsUnreadable (place : ℕ) (calls : List Call) : Type 0 where
   pub bad : front rest ≡ Bad
   pub at : place + length rest ≡ length (taken 0 calls)
 
--- The line was read to its end behind a message, or served up to the message that ends it.
+-- The line was read to its end after a message, or served up to the message that ends it.
 abbrev pub EndsClean : List Call → Type 0
 EndsClean calls =
     ((at_end 0 calls ≡ true) × (after most (length (events calls)) (taken 0 calls) ≡ Some (Going [])))
@@ -76,7 +76,7 @@ pub record EndsFaulted (endpoint : List ℕ) (start : RunStart) (marks : List Ma
   pub failed : store_failed calls ≡ true
   pub given : ((line : ℕ) → sent line calls ≡ due line endpoint start.first (events calls) marks true) ⊎ EndsFailed 0 calls
 
--- the line goes on behind the messages that were answered
+-- the line goes on after the messages that were answered
 abbrev pub IsUnfinished : List Call → Type 0
 IsUnfinished calls = (rest : List ℕ) × (after most (length (events calls)) (taken 0 calls) ≡ Some (Going rest))
 

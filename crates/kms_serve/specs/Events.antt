@@ -29,7 +29,7 @@ event n t s = record { line = 0; served = s; time = min t latest; last = is_last
 unfoldable pub event_at : (n : ℕ) → (bytes : List ℕ) → (t : ℕ) → List LineEvent
 event_at n bytes t = option_to_list (option_map (event n t) (served_at most n bytes))
 
--- A time that was told makes an event, and nothing else does. Behind a failed call of the line there are no more.
+-- A time that was told makes an event, and nothing else does. After a failed call of the line there are no more.
 abbrev pub events : List Call → List LineEvent
 events [] = []
 events (Text name room bytes ∷ calls) = events calls

@@ -1,5 +1,5 @@
 -- What the command `init` does: it names the store and, where there is none, draws a tag and creates a fresh one.
-use Rattle.std.specs.Prelude.{◌≡◌, ◌⊎◌, ℕ, ◌<◌, ◌/◌, List, [], ◌∷◌, length, Option, Some, None, Result, Ok, Err}
+use Rattle.std.specs.Prelude.{◌≡◌, ◌⊎◌, ℕ, ◌<◌, ◌/◌, List, [], ◌∷◌, length, Option, Some, None, IfSome, Result, Ok, Err}
 use Rattle.std.specs.Int.{w64, from_be_bytes}
 use Rattle.kms_host.specs.Disk.{disk, files, IsImage}
 use Rattle.kms_host.specs.History.{History, then_call}
@@ -7,7 +7,7 @@ use Rattle.kms_host.specs.Moment.{AtEach, then_calls}
 use Rattle.kms_host.specs.Line.{IsOpen}
 use Rattle.kms_host.specs.Store.{apart_from_files, failed_store_calls, OnlyAttached}
 use Rattle.kms_host.specs.declared.call.Call.{Call}
-use Rattle.kms_host.specs.declared.call.Call.TheVariants.{Attached, Drew}
+use Rattle.kms_host.specs.declared.call.Call.TheVariants.{Text, Listened, Came, Attached, Took, Gave, Shut, OnFile, Told, Drew}
 use Rattle.kms_host.specs.declared.call.Failed.{Failed}
 use Rattle.kms_host.specs.declared.call.NameFault.{NameFault}
 use Rattle.kms_host.specs.declared.call.NameFault.TheVariants as names
@@ -64,18 +64,38 @@ IsNoStore was = standing_of (files was) ≡ None
 abbrev pub IsStore : History → Type 0
 IsStore was = (s : Standing) × (standing_of (files was) ≡ Some s)
 
--- There were no others: nothing was taken, given or shut, and no time told. A tag is drawn only where there is no store.
+-- There were no others: nothing was taken, given or shut, and no time told. A tag is drawn only where there is no store, and
+-- of eight bytes.
 abbrev pub IsAlone : List ℕ → History → List Call → Type 0
 IsAlone store was apart =
     (apart ≡ [])
     ⊎ ((done : Result (Unit {0}) NameFault) × (apart ≡ naming store done))
-    ⊎ (IsNoStore was × ((bytes : Option (List ℕ)) × (apart ≡ drawing store bytes)))
+    ⊎ (IsNoStore was × ((bytes : Option (List ℕ)) × IfSome bytes (λ drawn. length drawn ≡ 8) × (apart ≡ drawing store bytes)))
+
+-- the store was attached, and a tag that was to be drawn was drawn
+abbrev pub HasFiles : List ℕ → List Call → Type 0
+HasFiles store apart = (apart ≡ naming store (Ok tt)) ⊎ ((bytes : List ℕ) × (apart ≡ drawing store (Some bytes)))
+
+-- a call on a file comes only then
+abbrev pub MayBeOnFile : List ℕ → List Call → Type 0
+MayBeOnFile store [] = Unit {0}
+MayBeOnFile store (Text name room bytes ∷ calls) = Unit {0}
+MayBeOnFile store (Listened address done ∷ calls) = Unit {0}
+MayBeOnFile store (Came line ∷ calls) = Unit {0}
+MayBeOnFile store (Attached name done ∷ calls) = Unit {0}
+MayBeOnFile store (Took line room bytes ∷ calls) = Unit {0}
+MayBeOnFile store (Gave line piece went ∷ calls) = Unit {0}
+MayBeOnFile store (Shut line ∷ calls) = Unit {0}
+MayBeOnFile store (OnFile file c ∷ calls) = HasFiles store (apart_from_files calls)
+MayBeOnFile store (Told t ∷ calls) = Unit {0}
+MayBeOnFile store (Drew purpose bytes ∷ calls) = Unit {0}
 
 -- After some of the calls, of which only the newest may be one of the store that failed. Each crash image stands for what the
 -- files did before; or there was no store, the eight bytes of a tag were drawn by then, and the image is a fresh store of
 -- this tag. A store that was there is left alone.
 pub record IsUnderWay (store : List ℕ) (was : History) (calls : List Call) : Type 0 where
   pub alone : IsAlone store was (apart_from_files calls)
+  pub on_file : MayBeOnFile store calls
   pub unfailed : IsUnfailedBefore calls
   pub images : IsQuietStore was → (image : List ℕ × List ℕ) → IsImage (then_calls was calls) image
       → (standing_of image ≡ standing_of (files was))

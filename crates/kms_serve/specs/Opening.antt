@@ -13,7 +13,7 @@ use Rattle.kms_core.specs.Starting.{IsRefusal, IsStart}
 use Rattle.kms_core.specs.Steps.{Held}
 use Rattle.kms_core.specs.declared.start_fault.StartFault.{StartFault}
 use Rattle.kms_core.specs.declared.start_fault.StartFault.TheVariants as start
-use Rattle.kms_serve.specs.StoreCalls.{store_failed, IsUnfailedBefore, OnlyFiles}
+use Rattle.kms_serve.specs.StoreCalls.{store_failed, IsUnfailedBefore, OnlyFiles, IfAttached}
 use Rattle.kms_serve.specs.declared.status.Status.{Status}
 use Rattle.kms_serve.specs.declared.status.Status.TheVariants as status
 
@@ -61,13 +61,14 @@ pub record IsAsBefore (was h : History) : Type 0 where
   pub other : (s : Standing) → standing_of (files was) ≡ Some s → (f : ℕ) → s.file ≢ f → disk f h ≡ disk f was
   pub syncs : syncs h.calls ≤ syncs was.calls + 2
 
--- The store of this name was attached, or not, and then calls were made on its files alone, none after one that failed. At
--- each moment it stood for what it stood for before.
-pub record IsOpening (store : List ℕ) (was : History) (calls : List Call) : Type 0 where
+-- The store of this name was attached, and then calls were made on its files alone, none after one that failed; or it could
+-- not be attached, and that was all. At each moment it stood for what it stood for before.
+pub record AreOpeningCalls (store : List ℕ) (was : History) (calls : List Call) : Type 0 where
   pub done : Result (Unit {0}) NameFault
   pub on_files : List Call
   pub made : calls ≡ on_files ++ Attached store done ∷ []
   pub only : OnlyFiles on_files
+  pub attached : IfAttached done on_files
   pub unfailed : IsUnfailedBefore calls
   pub each : AtEach (λ x. IsAsBefore was (then_calls was x)) calls
 
@@ -77,15 +78,15 @@ BeginsWith store calls = (done : Result (Unit {0}) NameFault) × (later : List C
 
 -- No store was opened, for this reason.
 pub record IsUnopened (store : List ℕ) (s : Status) (was : History) (calls : List Call) : Type 0 where
-  pub opening : IsOpening store was calls
+  pub opening : AreOpeningCalls store was calls
   pub why : IsRefused s was calls
 
 -- A store was opened.
 pub record IsOpenedBy (store : List ℕ) (engine : Held) (was : History) (calls : List Call) : Type 0 where
-  pub opening : IsOpening store was calls
+  pub opening : AreOpeningCalls store was calls
   pub start : IsStart (Ok engine) was (then_calls was calls)
   pub unfailed : store_failed calls ≡ false
 
-abbrev pub Opens : List ℕ → Result Held Status → History → List Call → Type 0
-Opens store (Ok engine) was calls = IsOpenedBy store engine was calls
-Opens store (Err s) was calls = IsUnopened store s was calls
+abbrev pub OpensStore : List ℕ → Result Held Status → History → List Call → Type 0
+OpensStore store (Ok engine) was calls = IsOpenedBy store engine was calls
+OpensStore store (Err s) was calls = IsUnopened store s was calls

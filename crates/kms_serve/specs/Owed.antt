@@ -8,7 +8,7 @@ use Rattle.kms_host.specs.declared.call.Call.TheVariants.{Text, Listened, Came, 
 use Rattle.kms_journal.specs.Device.{IsQuietStore}
 use Rattle.kms_core.specs.Settling.{IsSettledOrAll}
 use Rattle.kms_core.specs.Steps.{Held, IsSettled}
-use Rattle.kms_core.specs.Waiting.{IsAhead, count_of}
+use Rattle.kms_core.specs.Waiting.{WaitingLead, count_of}
 use Rattle.kms_model.specs.Run.{answer_at, state_at, stores_at, steps_if}
 use Rattle.kms_model.specs.declared.event.Mark.{Mark}
 use Rattle.kms_http.specs.Stream.{Served}
@@ -37,7 +37,7 @@ is_fault StoreFault = true
 pub record Waits (before after : Held) (steps : ℕ) : Type 0 where
   pub journal : after.store.journal ≡ before.store.journal
   pub count : count_of after.store.waiting ≡ steps
-  pub ahead : IsAhead after.store.waiting before.state after.state
+  pub ahead : WaitingLead after.store.waiting before.state after.state
 
 -- how many steps an event makes
 abbrev pub steps_at : Held → LineEvent → Mark → ℕ
@@ -58,7 +58,7 @@ pub record Settled (before after : Held) (steps more : ℕ) (failed : Bool) (mid
 
 -- A message was answered: its time was told, its steps were settled by calls on files, and no other call was made. Where one
 -- of these failed, which was the last, the fault of the store is owed.
-pub record Prepares (endpoint : List ℕ) (before after : Held) (served : Served) (n : ℕ) (owed : Owed) (was : History) (calls : List Call) : Type 0 where
+pub record PreparesReply (endpoint : List ℕ) (before after : Held) (served : Served) (n : ℕ) (owed : Owed) (was : History) (calls : List Call) : Type 0 where
   pub time : ℕ
   pub mark : Mark
   pub files : List Call

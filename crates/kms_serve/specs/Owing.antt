@@ -22,7 +22,7 @@ abbrev pub on_line : ℕ → List ℕ → List ℕ
 on_line line bytes = if 0 == line then bytes else []
 
 -- The theorem holds at each moment so far, the program's state is that of the plain key manager, and so is what the store
--- stands for. The stream stands so behind the messages that were answered, and these bytes of their replies are prepared
+-- stands for. The stream stands so after the messages that were answered, and these bytes of their replies are prepared
 -- and not given yet.
 pub record OwingAt (endpoint : List ℕ) (start : RunStart) (s : Serving) (stand : After) (owed : List ℕ) (calls : List Call) : Type 0 where
   pub marks : List Mark

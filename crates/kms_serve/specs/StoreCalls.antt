@@ -1,7 +1,8 @@
 -- What the calls of a run say of the store, beside what its files hold.
-use Rattle.std.specs.Prelude.{◌≡◌, List, [], ◌∷◌, drop, Bool, false, ◌||◌}
+use Rattle.std.specs.Prelude.{◌≡◌, List, [], ◌∷◌, drop, Bool, false, ◌||◌, Result, Ok, Err}
 use Rattle.kms_host.specs.Store.{store_call_failed}
 use Rattle.kms_host.specs.declared.call.Call.{Call}
+use Rattle.kms_host.specs.declared.call.NameFault.{NameFault}
 use Rattle.kms_host.specs.declared.call.Call.TheVariants.{Text, Listened, Came, Attached, Took, Gave, Shut, OnFile, Told, Drew}
 
 -- a call of the store failed
@@ -26,3 +27,8 @@ OnlyFiles (Shut line ∷ calls) = ⊥
 OnlyFiles (OnFile file c ∷ calls) = OnlyFiles calls
 OnlyFiles (Told t ∷ calls) = ⊥
 OnlyFiles (Drew purpose bytes ∷ calls) = ⊥
+
+-- files are called only where the store could be attached
+abbrev pub IfAttached : Result (Unit {0}) NameFault → (on_files : List Call) → Type 0
+IfAttached (Ok done) on_files = Unit {0}
+IfAttached (Err fault) on_files = on_files ≡ []

@@ -7,7 +7,7 @@ ghost use Rattle.kms_host.specs.Moment.{Since};
 ghost use Rattle.kms_host.specs.Store.{OnlyAttached};
 ghost use Rattle.kms_core.specs.Steps.{IsIdle, IsWorking};
 ghost use Rattle.kms_core.specs.declared.start_fault.StartFault.TheVariants as start;
-ghost use Rattle.kms_serve.specs.Opening.{Opens, IsRefusalStatus, refusal_of};
+ghost use Rattle.kms_serve.specs.Opening.{OpensStore, IsRefusalStatus, refusal_of};
 ghost use Rattle.kms_serve.specs.Turns.{CanServe};
 
 use crate::status::Status;
@@ -30,7 +30,7 @@ fn refusal(fault: StartFault) -> Status
 pub fn open_store<H: Host>(alloc: Global, store: &str, host: &mut H) -> Result<Engine, Status>
     requires store { WhereTold (H.history host.old) (λ h. OnlyAttached store.now h.calls) }
     requires line { WhereTold (H.history host.old) (IsOpen 0) }
-    ensures opens { Since (H.history host.old) (H.history host.new) (λ was calls. Opens store.now result was calls) }
+    ensures opens { Since (H.history host.old) (H.history host.new) (λ was calls. OpensStore store.now result was calls) }
     ensures ready { IfOk result (λ engine. WhereTold (H.history host.new) (CanServe engine)) }
     ensures idle { IfOk result IsIdle }
     ensures working { IfOk result IsWorking }

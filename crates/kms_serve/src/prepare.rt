@@ -6,11 +6,11 @@ ghost use Rattle.kms_host.specs.Line.{IsOpen};
 ghost use Rattle.kms_host.specs.Moment.{Since};
 ghost use Rattle.kms_http.specs.Reply.{printed};
 ghost use Rattle.kms_http.specs.Stream.{Served, is_last};
-ghost use Rattle.kms_core.specs.Steps.{Prepares as Leads, IsIdle, IsWorking, IsSpelledBehind};
+ghost use Rattle.kms_core.specs.Steps.{Prepares as Leads, IsIdle, IsWorking, IsSpelledAfter};
 ghost use Rattle.kms_json.specs.Answer.{reply_of};
 ghost use Rattle.kms_model.specs.Run.{asked_answer, asked_state, asked_stores, steps_if};
 ghost use Rattle.kms_serve.specs.Events.{LineEvent, most};
-ghost use Rattle.kms_serve.specs.Owed.{Prepares, Responds, Waits, is_fault};
+ghost use Rattle.kms_serve.specs.Owed.{PreparesReply, Responds, Waits, is_fault};
 ghost use Rattle.kms_serve.specs.Replies.{request_of};
 ghost use Rattle.kms_serve.specs.Turns.{CanServe};
 ghost use Rattle.kms_world.specs.State.{State};
@@ -45,7 +45,7 @@ fn asked<H: Host>(
     ensures answer { IfOk result (λ a. a.answer ≡ asked_answer engine.old.state request moment) }
     ensures step { IfOk result (λ a. Leads a.step engine.old.state (asked_state engine.old.state request moment) engine.new.room) }
     ensures stores { IfOk result (λ a. is_some a.step ≡ asked_stores engine.old.state request moment) }
-    ensures spelled { IfOk result (λ a. IfSome a.step (IsSpelledBehind engine.old)) }
+    ensures spelled { IfOk result (λ a. IfSome a.step (IsSpelledAfter engine.old)) }
     ensures times { IfOk result (λ a. HasTimes a.answer) }
     ensures same { engine.new.state ≡ engine.old.state }
     ensures store { engine.new.store ≡ engine.old.store }
@@ -66,7 +66,7 @@ fn asked<H: Host>(
 // Takes over the step, where there is one. It waits to be settled.
 fn take_over(engine: &mut Engine, step: Option<Step>)
     requires leads { (after : State) × Leads step engine.old.state after engine.old.room }
-    requires spelled { IfSome step (IsSpelledBehind engine.old) }
+    requires spelled { IfSome step (IsSpelledAfter engine.old) }
     requires idle { IsIdle engine.old }
     ensures state { (after : State) → Leads step engine.old.state after engine.old.room → engine.new.state ≡ after }
     ensures waits { Waits engine.old engine.new (steps_if (is_some step)) }
@@ -141,7 +141,7 @@ pub fn prepare<H: Host>(
     requires ready { WhereTold (H.history host.old) (CanServe engine.old) }
     ensures prepared { (served : Served) (n : ℕ) → request ≡ request_of served → last ≡ is_last most n served
         → Since (H.history host.old) (H.history host.new) (λ was calls.
-        Prepares endpoint.now engine.old engine.new served n result was calls) }
+        PreparesReply endpoint.now engine.old engine.new served n result was calls) }
     ensures open { WhereTold (H.history host.new) (IsOpen 0) }
     ensures ready { is_fault result ≡ false → WhereTold (H.history host.new) (CanServe engine.new) }
     ensures idle { is_fault result ≡ false → IsIdle engine.new }

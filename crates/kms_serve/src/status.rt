@@ -32,7 +32,7 @@ pub enum Status {
     Damaged(Place),
 }
 
-// Writes a piece behind what stands before a place, and answers the place after it.
+// Writes a piece after what stands before a place, and answers the place after it.
 fn put(room: &mut [u8; 192], at: usize, piece: &[u8]) -> usize
     requires { at + length piece.now ≤ 192 }
     ensures place { result ≡ at + length piece.now }

@@ -10,7 +10,7 @@ use std::alloc::Global;
 use std::rt::HostRuntime;
 use std::test::Fail;
 
-// The fresh store with one secret: its commit mark is set, and behind it stand the record's length, its number of steps,
+// The fresh store with one secret: its commit mark is set, and after it stand the record's length, its number of steps,
 // the step, which puts a secret, and the next commit mark.
 static STORED: [u8; 112] = [
     0x01, 0x42, 0x4b, 0x4d, 0x53, 0x54, 0x4f, 0x52, 0x45, 0x01, 0x00, 0x00, 0x00, 0x00, 0x00, 0x00,
@@ -22,7 +22,7 @@ static STORED: [u8; 112] = [
     0x00, 0x00, 0x1d, 0xc0, 0x9e, 0xb0, 0x01, 0x00, 0x01, 0x61, 0x00, 0x00, 0x00, 0x05, 0x00, 0x00,
 ];
 
-// The fresh store with a record behind it that puts nothing that is known.
+// The fresh store with a record after it that puts nothing that is known.
 static DAMAGED: [u8; 71] = [
     0x01, 0x42, 0x4b, 0x4d, 0x53, 0x54, 0x4f, 0x52, 0x45, 0x01, 0x00, 0x00, 0x00, 0x00, 0x00, 0x00,
     0x00, 0x01, 0x00, 0x12, 0x34, 0x56, 0x78, 0x9a, 0xbc, 0xde, 0x00, 0x00, 0x00, 0x00, 0x00, 0x00,
@@ -90,7 +90,7 @@ fn is_found(alloc: Global, host: &MemoryHost, pick: Pick) -> Result<Option<bool>
     })
 }
 
-// A run that is to store a secret, where the store's calls fail behind so many.
+// A run that is to store a secret, where the store's calls fail after so many.
 fn stopped(alloc: Global, passing: u64) -> Result<(Status, MemoryHost), NoMemory> {
     let mut row = serving(&FRESH, POST, 65536);
     row.passing = Some(passing);

@@ -1,7 +1,7 @@
 use Rattle.std.proofs.Common.{◌≡◌, Err, Option, Result, refl, sym, ap, subst, ◌∙◌}
 use Rattle.std.specs.Prelude.{is_some, IfSome}
 use Rattle.kms_world.specs.Times.{HasTimes}
-use Rattle.kms_core.specs.Steps.{Prepares, IsSpelledBehind}
+use Rattle.kms_core.specs.Steps.{Prepares, IsSpelledAfter}
 use Rattle.kms_core.specs.declared.step.Step.{Step}
 use Rattle.kms_world.specs.Effect.{after_effects}
 use Rattle.kms_world.specs.declared.refusal.Refusal.{Refusal}
@@ -23,7 +23,7 @@ returns g c =
       step = subst (λ (o : Option Step). Prepares o s (state_after s c.args.caller.now c.args.op c.args.moment) c.args.self.now.room) (sym c.refused-in_default.ensures.step) state;
       stores = ap (λ (o : Option Step). is_some o) c.refused-in_default.ensures.step ∙ sym stored;
       times = subst HasTimes (sym c.refused-in_default.ensures.answer) tt;
-      spelled = subst (λ (o : Option Step). IfSome o (IsSpelledBehind c.args.self.now)) (sym c.refused-in_default.ensures.step) tt;
+      spelled = subst (λ (o : Option Step). IfSome o (IsSpelledAfter c.args.self.now)) (sym c.refused-in_default.ensures.step) tt;
       same = refl;
       store = refl;
       host = refl;
