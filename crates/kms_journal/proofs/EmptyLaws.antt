@@ -1,4 +1,4 @@
--- A file that stands for nothing becomes one clear commit mark, at each moment.
+-- A file becomes one clear commit mark, at each moment.
 use Rattle.std.proofs.Common.{◌≡◌, ◌≢◌, ◌⊎◌, inl, inr, ℕ, ◌+◌, ◌<◌, min, List, [], ◌∷◌, length, get_or, take, drop, refl, sym, ◌∙◌, ap, subst, arith, Bool, true, false, cond, length-append}
 use Rattle.std.specs.Prelude.{Option, None, Ok, Err, unwrap_or}
 use Rattle.std.proofs.lemmas.List.{get_or-take}
@@ -11,12 +11,11 @@ use Rattle.kms_host.specs.declared.call.Call.TheVariants.{OnFile}
 use Rattle.kms_host.specs.declared.call.FileCall.TheVariants.{Wrote, CutTo, Synced}
 use Rattle.kms_host.proofs.DiskLaws.{only_image, torn_cut, disk_there, disk_elsewhere}
 use Rattle.kms_host.proofs.Moments.{goes_on, throughout_weaker, at_last}
-use Rattle.kms_journal.specs.Create.{IsEmptying, IsFirstClear, ClearsFirst, Empties}
 use Rattle.kms_journal.specs.Device.{IsQuiet, IsUntouched, HasPlace}
-use Rattle.kms_journal.specs.Standing.{standing}
+use Rattle.kms_journal.specs.Emptying.{IsNoNewer, IsEmptying, IsFirstClear, ClearsFirst, Empties}
 use Rattle.kms_journal.proofs.CurrentLaws.{too_short}
 use Rattle.kms_journal.proofs.FileLaws.{still_attached}
-use Rattle.kms_journal.proofs.FreshLaws.{none_of, overwritten}
+use Rattle.kms_journal.proofs.NoNewerLaws.{none_of, nothing_newer, same_newer, overwritten}
 
 -- the first byte that was read
 pub first_byte : (bytes room : List ℕ) (n : ℕ) → HasFirst bytes room n → length room ≡ 1 → (n ≡ min 1 (length bytes)) × (n ≡ 1 → get_or room 0 0 ≡ get_or bytes 0 0)
@@ -39,9 +38,7 @@ module _ (file : ℕ) (was : History) where
   -- while it is read
   emptying_untouched : (h : History) → IsUntouched was h → IsEmptying file was h
   emptying_untouched h u = record {
-    nothing = λ quiet none image may.
-        let same : image ≡ reads file was = only_image (reads file was) image (subst (λ (d : Disk). MayLeave d image) (u.disk file ∙ quiet) may) in
-        ap (standing file) same ∙ none;
+    no_newer = λ quiet image may. same_newer file (reads file was) image (only_image (reads file was) image (subst (λ (d : Disk). MayLeave d image) (u.disk file ∙ quiet) may));
     other = λ f ne. u.disk f;
     others = u.others;
     syncs = omega (arith, u.syncs);
@@ -72,10 +69,10 @@ module _ (file : ℕ) (was : History) where
 
     writing : IsEmptying file was now
     writing = record {
-      nothing = λ quiet none image may.
+      no_newer = λ quiet image may.
           let d = after_write (at_rest (reads file was)) 0 (0 ∷ []) (unwrap_or left (put (reads file was) 0 (0 ∷ []))) in
           let is_d : disk file now ≡ d = made ∙ ap (λ (x : Disk). after_write x 0 (0 ∷ []) (unwrap_or left (put (reads file was) 0 (0 ∷ [])))) quiet in
-          overwritten file (reads file was) d none first refl refl refl image (subst (λ (x : Disk). MayLeave x image) is_d may);
+          overwritten file (reads file was) d first refl refl refl image (subst (λ (x : Disk). MayLeave x image) is_d may);
       other = λ f ne. ap (disk f) is ∙ disk_elsewhere mid file f (Wrote 0 (0 ∷ []) left) ne ∙ last.disk f;
       others = ap others is ∙ last.others;
       syncs = let same : syncs now.calls ≡ syncs mid.calls = ap (λ (h : History). syncs h.calls) is in omega (arith, same, last.syncs);
@@ -115,25 +112,25 @@ module _ (file : ℕ) (was : History) where
     cut_disk : disk file now ≡ after_cut (disk file mid) 1 (unwrap_or left (take 1 (reads file mid)))
     cut_disk = ap (disk file) is ∙ disk_there mid file (CutTo 1 left)
 
-    pub cut_nothing : IsQuiet file was → standing file (reads file was) ≡ None → (image : List ℕ) → MayLeave (disk file now) image → standing file image ≡ None
-    cut_nothing quiet none image may = elim first [
+    pub cut_no_newer : IsQuiet file was → (image : List ℕ) → MayLeave (disk file now) image → IsNoNewer file (reads file was) image
+    cut_no_newer quiet image may = elim first [
       | inl a ↦
           let d = after_cut (at_rest (reads file was)) 1 (unwrap_or left (take 1 (reads file mid))) in
           let is_d : disk file now ≡ d = cut_disk ∙ ap (λ (x : Disk). after_cut x 1 (unwrap_or left (take 1 (reads file mid)))) (a.0 ∙ quiet) in
           let part : Cut 1 (reads file was) image = torn_cut (reads file was) 1 (unwrap_or left (take 1 (reads file mid))) image (omega (arith, a.1)) (subst (λ (x : Disk). MayLeave x image) is_d may) in
           let byte : get_or image 0 0 ≡ get_or (reads file was) 0 0 = ap (λ (l : List ℕ). get_or l 0 0) part.front ∙ get_or-take (length image) (reads file was) 0 0 (omega (arith, part.no_shorter)) in
-          none_of file image (λ e. a.2 (sym byte ∙ e))
+          nothing_newer file (reads file was) image (none_of file image (λ e. a.2 (sym byte ∙ e)))
       | inr a ↦
           let w = after_write (at_rest (reads file was)) 0 (0 ∷ []) (put (reads file was) 0 (0 ∷ [])) in
           let d = after_cut w 1 (unwrap_or left (take 1 (reads file mid))) in
           let is_w : disk file mid ≡ w = a.0 ∙ ap (λ (x : Disk). after_write x 0 (0 ∷ []) (put (reads file was) 0 (0 ∷ []))) quiet in
           let is_d : disk file now ≡ d = cut_disk ∙ ap (λ (x : Disk). after_cut x 1 (unwrap_or left (take 1 (reads file mid)))) is_w in
-          overwritten file (reads file was) d none a.1 refl refl refl image (subst (λ (x : Disk). MayLeave x image) is_d may)
+          overwritten file (reads file was) d a.1 refl refl refl image (subst (λ (x : Disk). MayLeave x image) is_d may)
     ]
 
     cutting : IsEmptying file was now
     cutting = record {
-      nothing = cut_nothing;
+      no_newer = cut_no_newer;
       other = λ f ne. ap (disk f) is ∙ disk_elsewhere mid file f (CutTo 1 left) ne ∙ before.other f ne;
       others = ap others is ∙ before.others;
       syncs = let more : syncs now.calls ≡ syncs mid.calls = ap (λ (h : History). syncs h.calls) is in omega (arith, more, same);
@@ -162,7 +159,7 @@ module _ (file : ℕ) (was : History) where
     module _ (end : History) (ok : Bool) (all : left ≡ None) (synced : end ≡ then_call now (OnFile file (Synced ok))) where
       syncing : IsEmptying file was end
       syncing = record {
-        nothing = λ quiet none image may. by_answer ok quiet none image (subst (λ (d : Disk). MayLeave d image) (ap (disk file) synced ∙ disk_there now file (Synced ok)) may);
+        no_newer = λ quiet image may. by_answer ok quiet image (subst (λ (d : Disk). MayLeave d image) (ap (disk file) synced ∙ disk_there now file (Synced ok)) may);
         other = λ f ne. ap (disk f) synced ∙ disk_elsewhere now file f (Synced ok) ne ∙ (at_last (IsEmptying file was) was now during_cut).other f ne;
         others = ap others synced ∙ (at_last (IsEmptying file was) was now during_cut).others;
         syncs =
@@ -171,11 +168,11 @@ module _ (file : ℕ) (was : History) where
             omega (arith, more, cut, same);
       }
         where
-          by_answer : (ok : Bool) → IsQuiet file was → standing file (reads file was) ≡ None → (image : List ℕ) → MayLeave (cond ok (at_rest (reads file now)) (disk file now)) image → standing file image ≡ None
-          by_answer true quiet none image may =
+          by_answer : (ok : Bool) → IsQuiet file was → (image : List ℕ) → MayLeave (cond ok (at_rest (reads file now)) (disk file now)) image → IsNoNewer file (reads file was) image
+          by_answer true quiet image may =
               let byte = one_byte all in
-              too_short file image (omega (arith, ap length (only_image (reads file now) image may ∙ byte.2)))
-          by_answer false quiet none image may = cut_nothing quiet none image may
+              nothing_newer file (reads file was) image (too_short file image (omega (arith, ap length (only_image (reads file now) image may ∙ byte.2))))
+          by_answer false quiet image may = cut_no_newer quiet image may
 
       pub during_sync : Throughout (IsEmptying file was) was end
       during_sync = goes_on (IsEmptying file was) was now end (OnFile file (Synced ok)) during_cut synced syncing

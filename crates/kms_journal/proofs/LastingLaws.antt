@@ -1,9 +1,9 @@
 -- What was acknowledged is found again.
-use Rattle.std.proofs.Common.{◌≡◌, inl, inr, sym, ◌∙◌, ap, subst, true}
+use Rattle.std.proofs.Common.{◌≡◌, inl, inr, refl, sym, ◌∙◌, ap, subst, true}
 use Rattle.std.specs.Prelude.{Some, None, Result, Ok, Err}
 use Rattle.kms_host.specs.History.{History}
 use Rattle.kms_host.specs.Disk.{files}
-use Rattle.kms_journal.specs.Lasting.{FindsAgain, IsAcknowledgedFound, IsKeptByTheNext, IsOpeningStopped}
+use Rattle.kms_journal.specs.Lasting.{FindsAgain, IsAcknowledgedFound, IsKeptByTheNext, IsOpeningStopped, IsCheckpointFound, IsCheckpointStopped}
 use Rattle.kms_journal.specs.Position.{Position, IsPlaced}
 use Rattle.kms_journal.specs.Recovery.{IsOpening}
 use Rattle.kms_journal.specs.Standing.{Standing, standing_of}
@@ -38,3 +38,16 @@ kept_by_the_next old new framed next s was now later stop image result start end
 pub opening_stopped : IsOpeningStopped
 opening_stopped s was stop image result start end quiet stands whole k is same opens =
     found_again s result start end (ap standing_of same ∙ k.images quiet image is ∙ stands) whole opens.answer
+
+pub checkpoint_found : IsCheckpointFound
+checkpoint_found new snapshot s was now stop image result start end quiet c u is same opens =
+    let stands : standing_of image ≡ Some _ =
+    quiet_image stop (quiet_stays now stop u (c.quiet quiet)) image is ∙ ap standing_of (same_files_by_disk now stop u) ∙ c.placed.current in
+    found_again _ result start end (ap standing_of same ∙ stands) c.placed.whole opens.answer
+
+pub checkpoint_stopped : IsCheckpointStopped
+checkpoint_stopped p snapshot s was stop image result start end rest during is same opens =
+    elim (during.images rest.quiet image is) [
+      | inl stands ↦ inl (found_again _ result start end (ap standing_of same ∙ stands) rest.placed.whole opens.answer)
+      | inr stands ↦ inr (found_again _ result start end (ap standing_of same ∙ stands) refl opens.answer)
+    ]

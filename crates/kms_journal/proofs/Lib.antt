@@ -1,5 +1,6 @@
 pub mod AheadLaws
 pub mod BufferLaws
+pub mod CheckpointLaws
 pub mod CommitLaws
 pub mod CreateLaws
 pub mod CurrentLaws
@@ -8,17 +9,20 @@ pub mod EmptyLaws
 pub mod FaultLaws
 pub mod FileLaws
 pub mod FrameLaws
-pub mod FreshLaws
 pub mod GatherLaws
+pub mod GrowingLaws
 pub mod LastingLaws
+pub mod NoNewerLaws
 pub mod OpeningLaws
 pub mod PlacedLaws
 pub mod ReadingLaws
 pub mod RecordLaws
 pub mod NewestLaws
 mod Refused
+pub mod RenewalLaws
 pub mod RepairLaws
 pub mod RestLaws
+pub mod SpellingLaws
 pub mod StandingLaws
 pub mod WalkLaws
 pub mod Writing

@@ -1,6 +1,6 @@
 -- Calls that the contracts refuse: from each wrong list of calls or wrong answer, and its clause follows anything. They are of a fresh
 -- store and of one with a record behind a clear commit mark.
-use Rattle.std.proofs.Common.{◌≡◌, inl, inr, ℕ, zero, suc, ◌-◌, ◌^◌, ◌<◌, ◌≤◌, List, [], ◌∷◌, ◌++◌, get_or, lit<, lit≤, refl, sym, ◌∙◌, ap, arith, true, false}
+use Rattle.std.proofs.Common.{◌≡◌, inl, inr, ℕ, zero, suc, ◌-◌, ◌^◌, ◌<◌, ◌≤◌, List, [], ◌∷◌, ◌++◌, length, get_or, lit<, lit≤, refl, sym, ◌∙◌, ap, arith, true, false}
 use Rattle.std.specs.Prelude.{Option, Some, None, Ok, Err}
 use Rattle.kms_host.specs.Disk.{Disk, disk, MayLeave, IsImage}
 use Rattle.kms_host.specs.Faults.{Faults, HasCause}
@@ -13,18 +13,22 @@ use Rattle.kms_host.specs.declared.call.FileCall.TheVariants.{Measured, Wrote, C
 use Rattle.std.proofs.lemmas.List.{get_or_append_left, get_or-append_right}
 use Rattle.kms_host.proofs.DiskLaws.{is_image}
 use Rattle.kms_host.proofs.Moments.{at_last}
+use Rattle.kms_journal.specs.Checkpoint.{with_snapshot, IsOldOrNew, Checkpoints}
 use Rattle.kms_journal.specs.Commit.{IsBeforeOrAfter, Commits}
 use Rattle.kms_journal.specs.Create.{fresh, Creates}
 use Rattle.kms_journal.specs.Device.{IsQuietStore, HasStoreCause}
 use Rattle.kms_journal.specs.Fault.{Fails}
 use Rattle.kms_journal.specs.Header.{is_header, is_in_range, snapshot_len, letters}
+use Rattle.kms_journal.specs.Pieces.{Snapshot}
 use Rattle.kms_journal.specs.Position.{Position, IsPlaced}
 use Rattle.kms_journal.specs.Recovery.{KeepsStanding, Opens}
+use Rattle.kms_journal.specs.Spelling.{header_rest, file_rest}
 use Rattle.kms_journal.specs.Standing.{Standing, records_from, standing_from, standing, standing_of, with_framed}
 use Rattle.kms_journal.specs.declared.fault.JournalFault.TheVariants as opening
 use Rattle.kms_journal.specs.declared.chain.Chain.{Chain}
 use Rattle.kms_journal.specs.declared.fault.Place.{Place}
 use Rattle.kms_journal.specs.declared.fault.StoreFault.{StoreFault}
+use Rattle.kms_journal.specs.declared.header.Header.{Header}
 
 -- a host whose first file is this and whose second is empty, with these calls on the first, the newest first
 abbrev with_file : List ℕ → List Call → History
@@ -195,3 +199,59 @@ fault_of_its_own f low c = omega (arith, low, c.failed)
 
 pub fault_of_its_own_at_opening : (f : Faults) → f.store < 2 ^ 64 - 1 → HasStoreCause {T = Position} opening.StoreFault f f (Err opening.StoreFault) → ⊥
 fault_of_its_own_at_opening f low c = omega (arith, low, c.failed refl)
+
+-- A checkpoint.
+
+-- a snapshot of one byte, and what stands after the first commit mark of the next file, with any such byte
+abbrev snapshot : ℕ → Snapshot
+snapshot byte = record { ids = 0; steps = 0; bytes = byte ∷ [] }
+
+abbrev next_header : Header
+next_header = record { file = 1; generation = 2; tag = 5; ids = 0; steps = 0; snapshot = 1 }
+
+abbrev next_rest : ℕ → List ℕ
+next_rest byte = file_rest next_header (byte ∷ [])
+
+with_next : (byte : ℕ) → standing_of (store (0 ∷ []), 1 ∷ next_rest byte) ≡ Some (with_snapshot (fresh 5) (snapshot byte))
+unfolding standing standing_from records_from is_header is_in_range snapshot_len letters header_rest
+with_next byte = refl
+
+next_size : (byte : ℕ) → length (1 ∷ next_rest byte) ≡ 52
+unfolding header_rest letters
+next_size byte = refl
+
+-- the first byte of the snapshot
+snapshot_byte : Option Standing → ℕ
+snapshot_byte None = 0
+snapshot_byte (Some s) = get_or s.snapshot 0 0
+
+-- It sets the first commit mark before the snapshot is synced: a stop may leave the mark, and any snapshot behind it.
+pub mark_before_the_snapshot : Throughout (IsOldOrNew (fresh 5) (snapshot 7) (with_file (store (0 ∷ [])) [])) (with_file (store (0 ∷ [])) [])
+    (with_file (store (0 ∷ [])) (OnFile 1 (Wrote 0 (1 ∷ []) None) ∷ OnFile 1 (Wrote 1 (next_rest 7) None) ∷ OnFile 1 (Synced true) ∷ OnFile 1 (CutTo 1 None) ∷ OnFile 1 (Wrote 0 (0 ∷ []) None) ∷ []))
+    → ⊥
+unfolding snapshot_byte
+mark_before_the_snapshot t =
+    let was = with_file (store (0 ∷ [])) [] in
+    let now = with_file (store (0 ∷ [])) (OnFile 1 (Wrote 0 (1 ∷ []) None) ∷ OnFile 1 (Wrote 1 (next_rest 7) None) ∷ OnFile 1 (Synced true) ∷ OnFile 1 (CutTo 1 None) ∷ OnFile 1 (Wrote 0 (0 ∷ []) None) ∷ []) in
+    let may : MayLeave (disk 1 now) (1 ∷ next_rest 9) = record {
+      no_shorter = omega (arith, next_size 9);
+      no_longer = omega (arith, next_size 9, next_size 7);
+      stays = λ k long low out. elim out.0 [ inl before ↦ absurd (omega (arith, before)) | inr behind ↦ absurd (omega (arith, low, behind)) ];
+    } in
+    let image : IsImage now (store (0 ∷ []), 1 ∷ next_rest 9) = record { file_0 = is_image (store (0 ∷ [])); file_1 = may } in
+    elim ((at_last (IsOldOrNew (fresh 5) (snapshot 7) was) was now t).images (quiet_at_first (store (0 ∷ []))) (store (0 ∷ []), 1 ∷ next_rest 9) image) [
+      | inl is ↦ clash 0 9 (ap snapshot_byte (sym is ∙ with_next 9)) (lit< tt)
+      | inr is ↦ clash 7 9 (ap snapshot_byte (sym is ∙ with_next 9)) (lit< tt)
+    ]
+
+-- It cuts the file that is current before the new one is whole.
+pub old_file_cut : Throughout (IsOldOrNew (fresh 5) (snapshot 7) (with_file (store (0 ∷ [])) [])) (with_file (store (0 ∷ [])) []) (with_file (store (0 ∷ [])) (OnFile 0 (CutTo 1 None) ∷ [])) → ⊥
+old_file_cut t =
+    let was = with_file (store (0 ∷ [])) [] in
+    let now = with_file (store (0 ∷ [])) (OnFile 0 (CutTo 1 None) ∷ []) in
+    let same = ap (λ (d : Disk). d.shortest) (at_last (IsOldOrNew (fresh 5) (snapshot 7) was) was now t).old in
+    clash 1 59 same (lit< tt)
+
+-- It is acknowledged, and the new file has the generation of the old one.
+pub generation_not_raised : (new : Position) (now : History) → new.generation ≡ 1 → Checkpoints {T = Unit {0}} {E = StoreFault} new (snapshot 7) (Ok tt) (fresh 5) (with_file (store (0 ∷ [])) []) now → ⊥
+generation_not_raised new now is c = clash 1 2 (sym is ∙ ap (λ (p : Position). p.generation) c.placed.here) (lit< tt)

@@ -1,16 +1,16 @@
 -- What creating a store does to its files, at each moment.
-use Rattle.std.specs.Prelude.{◌≡◌, ◌≢◌, ◌⊎◌, ℕ, ◌+◌, ◌<◌, ◌≤◌, length, slice_index, List, [], ◌∷◌, ◌++◌, Some, None, Result, Ok, Err, OnOk, true}
-use Rattle.std.specs.Int.{w64, to_be_bytes}
-use Rattle.kms_host.specs.Disk.{disk, reads, files, at_rest, put, after_write, MayLeave, IsImage}
+use Rattle.std.specs.Prelude.{◌≡◌, ◌≢◌, ◌⊎◌, ℕ, ◌+◌, ◌≤◌, List, [], ◌∷◌, Some, None, Result, Ok, Err, true}
+use Rattle.kms_host.specs.Disk.{disk, reads, files, IsImage}
 use Rattle.kms_host.specs.History.{History}
 use Rattle.kms_host.specs.Moment.{Throughout}
 use Rattle.kms_host.specs.Store.{others, syncs}
 use Rattle.kms_journal.specs.Device.{IsQuiet, IsQuietStore, IsUntouched}
-use Rattle.kms_journal.specs.Header.{letters}
+use Rattle.kms_journal.specs.Spelling.{file_rest}
 use Rattle.kms_journal.specs.Position.{position_of, IsPlaced}
-use Rattle.kms_journal.specs.Standing.{Standing, standing, standing_of}
+use Rattle.kms_journal.specs.Standing.{Standing, standing_of}
 use Rattle.kms_journal.specs.declared.fault.CreateFault.{CreateFault}
 use Rattle.kms_journal.specs.declared.fault.CreateFault.TheVariants.{Exists, StoreFault, NoMemory}
+use Rattle.kms_journal.specs.declared.header.Header.{Header}
 
 -- the snapshot of an empty key manager: no changes, as a number of 8 bytes
 abbrev pub no_changes : List ℕ
@@ -20,10 +20,12 @@ no_changes = 0 ∷ 0 ∷ 0 ∷ 0 ∷ 0 ∷ 0 ∷ 0 ∷ 0 ∷ []
 abbrev pub fresh : ℕ → Standing
 fresh tag = record { file = 0; generation = 1; tag = tag; ids = 0; steps = 0; snapshot = no_changes; records = []; stop = 58; is_whole = true }
 
--- The bytes after the first commit mark of a fresh file 0: letters, version, generation, tag, no ids, no steps, the
--- snapshot's length, the snapshot, and a clear commit mark.
-unfoldable pub fresh_rest : ℕ → List ℕ
-fresh_rest tag = letters ++ 1 ∷ (to_be_bytes w64 1 ++ to_be_bytes w64 tag ++ to_be_bytes w64 0 ++ to_be_bytes w64 0 ++ to_be_bytes w64 8 ++ no_changes ++ 0 ∷ [])
+abbrev pub fresh_header : ℕ → Header
+fresh_header tag = record { file = 0; generation = 1; tag = tag; ids = 0; steps = 0; snapshot = 8 }
+
+-- the bytes after the first commit mark of a fresh file 0
+abbrev pub fresh_rest : ℕ → List ℕ
+fresh_rest tag = file_rest (fresh_header tag) no_changes
 
 -- Each crash image stands for what the files stood for before, or for the fresh store where there was none. A store that is
 -- there already is only read, and file 1 always.
@@ -47,26 +49,3 @@ IsCreation tag (Err NoMemory) was now = ⊥
 pub record Creates (tag : ℕ) (result : Result (Unit {0}) CreateFault) (was now : History) : Type 0 where
   pub throughout : Throughout (IsNoneOrFresh tag was) was now
   pub answer : IsCreation tag result was now
-
--- While a file is made one clear commit mark. If it stands for nothing, and nothing was pending on it, each crash image of it
--- stands for nothing.
-pub record IsEmptying (file : ℕ) (was h : History) : Type 0 where
-  pub nothing : IsQuiet file was → standing file (reads file was) ≡ None → (image : List ℕ) → MayLeave (disk file h) image → standing file image ≡ None
-  pub other : (f : ℕ) → file ≢ f → disk f h ≡ disk f was
-  pub others : others h ≡ others was
-  pub syncs : syncs h.calls ≤ syncs was.calls + 1
-
--- Either the first byte is there and isn't 1, and nothing was called; or a 0 is being written over it, where it is 1 or there
--- is none.
-abbrev pub IsFirstClear : ℕ → History → History → Type 0
-IsFirstClear file was now = ((disk file now ≡ disk file was) × (0 < length (reads file was)) × (slice_index (reads file was) 0 ≢ 1))
-    ⊎ ((disk file now ≡ after_write (disk file was) 0 (0 ∷ []) (put (reads file was) 0 (0 ∷ []))) × ((length (reads file was) ≡ 0) ⊎ (slice_index (reads file was) 0 ≡ 1)))
-
-pub record ClearsFirst {T E : Type 0} (file : ℕ) (result : Result T E) (was now : History) : Type 0 where
-  pub throughout : Throughout (IsEmptying file was) was now
-  pub syncs : syncs now.calls ≡ syncs was.calls
-  pub done : OnOk result (IsFirstClear file was now)
-
-pub record Empties {T E : Type 0} (file : ℕ) (result : Result T E) (was now : History) : Type 0 where
-  pub throughout : Throughout (IsEmptying file was) was now
-  pub done : OnOk result ((first : ℕ) × (first ≢ 1) × (disk file now ≡ at_rest (first ∷ [])))

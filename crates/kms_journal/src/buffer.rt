@@ -1,12 +1,17 @@
 // Bytes of a file, read ahead of their use.
-ghost use Rattle.std.specs.Prelude.{◌≡◌, ◌<◌, ◌≤◌, ◌^◌, [], length, take, drop, IfOk, is_err};
+ghost use Rattle.std.specs.Prelude.{◌≡◌, ◌+◌, ◌<◌, ◌≤◌, ◌^◌, [], length, take, drop, IfOk, OnOk, is_err};
 ghost use Rattle.kms_host.specs.Faults.{HasCause};
 ghost use Rattle.kms_host.specs.History.{Tells, WhereTold, Stops};
 ghost use Rattle.kms_host.specs.Store.{IsAttached};
 ghost use Rattle.kms_host.specs.declared.call.Count.TheVariants as counts;
 ghost use Rattle.kms_journal.specs.Ahead.{Fills};
 ghost use Rattle.kms_journal.specs.Fault.{Fails};
+ghost use Rattle.kms_journal.specs.Renewal.{Renews};
+ghost use Rattle.kms_journal.specs.Spelling.{file_rest};
 
+use crate::header::Header;
+use crate::renewal::renew;
+use crate::{Pieces, StoreFault};
 use kms_host::{Failed, Host, NoMemory};
 use std::alloc::Global;
 use std::marker::Model;
@@ -65,6 +70,27 @@ impl Buffer {
         ensures { self.new ≡ drop size self.old }
     {
         self.used += (self.count - self.used).min(size);
+    }
+
+    /// Writes a file anew through the buffer's memory, which then holds no bytes of a file, as [`renew`] has it.
+    pub fn renew<H: Host, P: Pieces>(
+        &mut self,
+        host: &mut H,
+        header: &Header,
+        pieces: &mut P,
+    ) -> Result<(), StoreFault>
+        requires file { header.now.file < 2 }
+        requires size { header.now.snapshot ≡ length (P.left pieces.old) }
+        requires attached { WhereTold (H.history host.old) IsAttached }
+        ensures told { Tells (H.history host.old) (H.history host.new) (Renews header.now.file (file_rest header.now (P.left pieces.old)) result) }
+        ensures bound { OnOk result (51 + header.now.snapshot < 2 ^ 62) }
+        ensures cause { HasCause counts.Store (H.faults host.old) (H.faults host.new) result }
+        ensures failed { Tells (H.history host.old) (H.history host.new) (Fails (is_err result)) }
+        ensures stops { Stops (H.wanted host.old) (H.wanted host.new) (H.history host.old) (H.history host.new) }
+    {
+        self.used = 0;
+        self.count = 0;
+        renew(host, header, pieces, &mut self.bytes)
     }
 
     /// Reads on in a file, from the place of its first byte on, where it holds fewer bytes than are needed. So each

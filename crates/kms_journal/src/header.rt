@@ -2,6 +2,7 @@
 ghost use Rattle.std.specs.Prelude.{◌≡◌, ◌+◌, ◌<◌, ◌≤◌, ◌^◌, ℕ, List, length, take, IfSome};
 ghost use Rattle.kms_journal.specs.Current.{IsHead, IsSized, is_current_based};
 ghost use Rattle.kms_journal.specs.Header.{number_in, is_header};
+ghost use Rattle.kms_journal.specs.Spelling.{header_rest};
 
 /// The length of a header, in bytes.
 pub const HEADER: usize = 50;
@@ -50,6 +51,23 @@ pub fn is_header(head: &[u8]) -> bool
     ensures { result ≡ is_header head.now }
 {
     head[0] == 1 && &head[1..9] == LETTERS.as_slice() && head[9] == 1 && number(head, 10) >= 1
+}
+
+/// The 49 bytes of a header after the first commit mark: the letters, the version, and the five numbers.
+#[tactic(auto, unfolding(crate::specs::Spelling::header_rest, crate::specs::Header::letters))]
+pub fn spelled(header: &Header) -> [u8; 49]
+    ensures { result ≡ header_rest header.now }
+{
+    let [a, b, c, d, e, f, g, h] = header.generation.to_be_bytes();
+    let [i, j, k, l, m, n, o, p] = header.tag.to_be_bytes();
+    let [q, r, s, t, u, v, w, x] = header.ids.to_be_bytes();
+    let [a2, b2, c2, d2, e2, f2, g2, h2] = header.steps.to_be_bytes();
+    let [i2, j2, k2, l2, m2, n2, o2, p2] = header.snapshot.to_be_bytes();
+    [
+        b'B', b'K', b'M', b'S', b'T', b'O', b'R', b'E', 1, a, b, c, d, e, f, g, h, i, j, k, l, m,
+        n, o, p, q, r, s, t, u, v, w, x, a2, b2, c2, d2, e2, f2, g2, h2, i2, j2, k2, l2, m2, n2,
+        o2, p2,
+    ]
 }
 
 /// What a file of this length says of itself in its first 50 bytes, if its first commit mark is set and its header is

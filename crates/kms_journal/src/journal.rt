@@ -5,6 +5,7 @@ ghost use Rattle.kms_host.specs.History.{Tells, WhereTold, Stops};
 ghost use Rattle.kms_host.specs.declared.call.Count.TheVariants as counts;
 ghost use Rattle.kms_journal.specs.Commit.{IsFramed, Commits};
 ghost use Rattle.kms_journal.specs.Answers.{Gathers};
+ghost use Rattle.kms_journal.specs.Checkpoint.{Checkpoints, moved_to};
 ghost use Rattle.kms_journal.specs.Device.{HasStoreCause};
 ghost use Rattle.kms_journal.specs.Position.{IsPlaced, position_at, failed_if};
 ghost use Rattle.kms_journal.specs.Standing.{Standing};
@@ -16,14 +17,14 @@ use crate::fault::GatherFault;
 use crate::gather::read_chain;
 use crate::header::{Current, Header};
 use crate::through::write_through;
-use crate::{Chain, JournalFault, StoreFault};
+use crate::{Chain, JournalFault, Pieces, StoreFault};
 use kms_host::Host;
 use std::alloc::Global;
 use std::marker::Model;
 
-/// An opened store: its current file's header, the place of that file's last commit mark, the buffer for reading, what
-/// the opening read, until that is taken, and whether a call of the store failed in one of the journal's calls. From then
-/// on nothing is written.
+/// An opened store: its current file's header, the place of that file's last commit mark, the buffer for reading and for
+/// checkpoints, what the opening read, until that is taken, and whether a call of the store failed in one of the journal's
+/// calls. From then on nothing is written.
 #[derive(Drop)]
 pub struct Journal {
     header: Header,
@@ -130,6 +131,52 @@ impl Journal {
         write_through(host, self.header.file, self.end, &[1])?;
         self.failed = false;
         self.end += framed.len() as u64;
+        Ok(())
+    }
+
+    /// A checkpoint: puts a snapshot in the place of the records. It is written to the other file, with no records, and
+    /// that file is current then. The buffer that was taken at the opening serves for it, and no memory is taken.
+    ///
+    /// The other file is made one clear commit mark and synced, the header of the next generation, the snapshot and a clear
+    /// commit mark are written and synced, and then the first commit mark is set by a write of its own and synced. The file
+    /// that was current isn't touched. There are three syncs at most. If nothing was pending before, each crash image has
+    /// what the store stood for, or the snapshot; from an Ok on it has the snapshot. A fault is answered exactly where a call
+    /// on the store's files failed. The journal has failed then: open the store anew.
+    ///
+    /// No checkpoint is made of a generation of 2^63 or more. The snapshot has to be whole, with nothing of it given yet, and
+    /// of 2^62 ids at most.
+    pub fn turn_over<H: Host, P: Pieces>(
+        &mut self,
+        host: &mut H,
+        pieces: &mut P,
+    ) -> Result<(), StoreFault>
+        requires working { self.old.failed ≡ false }
+        requires generation { self.old.generation < 2 ^ 63 }
+        requires ids { (P.snapshot pieces.old).ids ≤ 2 ^ 62 }
+        requires whole { P.left pieces.old ≡ (P.snapshot pieces.old).bytes }
+        requires placed { WhereTold (H.history host.old) (λ h. (s : Standing) × IsPlaced self.old h s) }
+        ensures told { Tells (H.history host.old) (H.history host.new) (λ was now. (s : Standing)
+            → IsPlaced self.old was s → Checkpoints self.new (P.snapshot pieces.old) result s was now) }
+        ensures moved { OnOk result (self.new ≡ moved_to self.old (P.snapshot pieces.old)) }
+        ensures fails { OnErr result (self.new ≡ record self.old { failed = true; chain = None }) }
+        ensures cause { HasCause counts.Store (H.faults host.old) (H.faults host.new) result }
+        ensures failed { Tells (H.history host.old) (H.history host.new) (Fails (is_err result)) }
+        ensures stops { Stops (H.wanted host.old) (H.wanted host.new) (H.history host.old) (H.history host.new) }
+    {
+        self.failed = true;
+        self.chain = None;
+        let header = Header {
+            file: 1 - self.header.file,
+            generation: self.header.generation + 1,
+            tag: self.header.tag,
+            ids: pieces.ids(),
+            steps: pieces.steps(),
+            snapshot: pieces.total(),
+        };
+        self.buffer.renew(host, &header, pieces)?;
+        self.failed = false;
+        self.header = header;
+        self.end = 50 + header.snapshot;
         Ok(())
     }
 }

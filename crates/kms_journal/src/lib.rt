@@ -1,16 +1,19 @@
-//! The two files of a store: commit marks, records, and what a stop at any moment leaves of them.
+//! The two files of a store: commit marks, records, checkpoints, and what a stop at any moment leaves of them.
 #![tactic(auto)]
 
 mod buffer;
 mod chain;
 mod creation;
 mod current;
+mod emptying;
 mod fault;
 mod gather;
 mod header;
 mod journal;
 pub mod laws;
+mod pieces;
 mod recovery;
+mod renewal;
 #[cfg(test)]
 mod tests;
 mod through;
@@ -21,4 +24,5 @@ pub use creation::create;
 pub use current::living;
 pub use fault::{CreateFault, JournalFault, Place, StoreFault};
 pub use journal::Journal;
+pub use pieces::Pieces;
 pub use recovery::recover;

@@ -2,10 +2,10 @@ use Rattle.std.proofs.Common.{false}
 use Rattle.std.proofs.lemmas.Result.{err_from_is_err_and}
 use Rattle.kms_host.proofs.FaultLaws.{stops_then}
 use Rattle.kms_host.proofs.Moments.{tells_then, tells_weaker, known_with_told, at_last}
-use Rattle.kms_journal.specs.Create.{IsEmptying}
+use Rattle.kms_journal.specs.Emptying.{IsEmptying}
 use Rattle.kms_journal.proofs.EmptyLaws.{IsCutBehind, can_cut, cut_fails, during_cut, sync_fails, emptied}
 use Rattle.kms_journal.proofs.FileLaws.{still_attached}
-use Rattle.kms_journal.proofs.creation.empty.Goals as goal
+use Rattle.kms_journal.proofs.emptying.empty.Goals as goal
 
 pub returns-in_err-clear_first-clause-told : goal.returns-in_err-clear_first-clause-told
 returns-in_err-clear_first-clause-told g c =

@@ -5,7 +5,7 @@ use Rattle.kms_host.proofs.FaultLaws.{stops_then}
 use Rattle.kms_host.proofs.Moments.{tells_then, tells_weaker, known_with_told}
 use Rattle.kms_journal.proofs.EmptyLaws.{first_byte, first_set, clear_already, reading_fails, write_fails, cleared}
 use Rattle.kms_journal.proofs.ReadingLaws.{one_read, attached_after}
-use Rattle.kms_journal.proofs.creation.clear_first.Goals as goal
+use Rattle.kms_journal.proofs.emptying.clear_first.Goals as goal
 
 pub returns-in_err-count-clause-told : goal.returns-in_err-count-clause-told
 returns-in_err-count-clause-told g c =
