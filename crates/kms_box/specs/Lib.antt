@@ -1,0 +1,5 @@
+pub mod Consumer
+pub mod Container
+pub mod Member
+pub mod Names
+pub mod Rules

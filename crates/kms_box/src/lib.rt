@@ -1,0 +1,17 @@
+//! Bodies of containers, their members and their consumers: each is checked, and the first rule that it breaks is its
+//! refusal.
+#![tactic(auto)]
+
+mod consumer;
+mod container;
+mod fields;
+mod member;
+mod names;
+#[cfg(test)]
+mod table;
+#[cfg(test)]
+mod tests;
+
+pub use consumer::check_consumer;
+pub use container::{NewContainer, check_container};
+pub use member::check_member;

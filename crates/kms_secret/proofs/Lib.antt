@@ -1,0 +1,3 @@
+pub mod AscendingLaws
+pub mod KeyLaws
+pub mod SortedLaws

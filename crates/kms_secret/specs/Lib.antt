@@ -1,0 +1,9 @@
+pub mod Ascending
+pub mod Fields
+pub mod Media
+pub mod Metadata
+pub mod Order
+pub mod Payload
+pub mod Rules
+pub mod Secret
+pub mod Sorted
