@@ -7,7 +7,7 @@ use Rattle.kms_world.specs.Id.{is_id}
 use Rattle.kms_world.specs.LookUp.{secret_of}
 use Rattle.kms_world.specs.declared.id.Id.{Id}
 use Rattle.kms_world.specs.declared.secret.SecretRow.{SecretRow}
-use Rattle.kms_record.specs.Rising.{IsGiven, Rises}
+use Rattle.kms_kept.specs.Rising.{IsGiven, Rises}
 
 some_same : {A : Type 0} (x y : A) → (let o : Option A = Some x in let p : Option A = Some y in o ≡ p) → x ≡ y
 some_same x y e = cc

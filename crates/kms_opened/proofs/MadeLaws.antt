@@ -9,9 +9,9 @@ use Rattle.kms_world.specs.declared.id.Id.{Id}
 use Rattle.kms_world.specs.declared.order.OrderRow.{OrderRow}
 use Rattle.kms_world.specs.declared.payload.Payload.{Payload}
 use Rattle.kms_world.specs.declared.secret.SecretRow.{SecretRow}
-use Rattle.kms_record.specs.Kept.{secret_ids}
-use Rattle.kms_record.specs.Rising.{IsGiven, IsRising}
-use Rattle.kms_record.proofs.RisingLaws.{below_all, given_below}
+use Rattle.kms_kept.specs.Kept.{secret_ids}
+use Rattle.kms_kept.specs.Rising.{IsGiven, IsRising}
+use Rattle.kms_kept.proofs.RisingLaws.{below_all, given_below}
 use Rattle.kms_opened.specs.Made.{made}
 
 same_rows : (id : Id) (f : SecretRow → SecretRow) (row : SecretRow) (rows : List SecretRow) → is_id id row.id ≡ true → AllByRecursion (λ (other : Id). other.0 < id.0) (map (λ (r : SecretRow). r.id) rows)

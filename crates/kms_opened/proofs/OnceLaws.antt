@@ -11,7 +11,7 @@ use Rattle.kms_world.specs.declared.payload.Media.{Media}
 use Rattle.kms_world.specs.declared.payload.Payload.{Payload}
 use Rattle.kms_world.specs.declared.secret.SecretRow.{SecretRow}
 use Rattle.kms_record.specs.declared.key.WrappedKey.{WrappedKey}
-use Rattle.kms_record.specs.Kept.{Kept}
+use Rattle.kms_kept.specs.Kept.{Kept}
 use Rattle.kms_opened.specs.Opened.{OpensUnder, OpensPayload, OpensRow, Opened}
 
 zip_once : {A B : Type 0} (R : A → B → Type 0) → ((x : A) (y z : B) → R x y → R x z → y ≡ z) → (xs : List A) (ys zs : List B) → AllZip R xs ys → AllZip R xs zs → ys ≡ zs

@@ -20,15 +20,17 @@ use Rattle.kms_record.specs.declared.change.Change.TheVariants.{KeyAdded, KeyRew
 use Rattle.kms_record.specs.declared.key.WrappedKey.{WrappedKey}
 use Rattle.kms_record.specs.declared.quota.QuotaLimits.{QuotaLimits}
 use Rattle.kms_record.specs.ChangeEffect.{container_at, order_at, acl_at, quota_at, quota_effect, effect_of}
-use Rattle.kms_record.specs.Kept.{Kept, Part, applies, changed, is_key, key_of, is_under, token_replaced, with_token, after_change, after_changes}
-use Rattle.kms_record.specs.Rising.{IsRising}
+use Rattle.kms_kept.specs.Kept.{Kept, Part, applies, changed, is_key, key_of, insert_key, is_under, token_replaced, with_token, after_change, after_changes}
+use Rattle.kms_kept.specs.Rising.{IsRising}
 use Rattle.kms_record.specs.SecretPut.{row_of}
-use Rattle.kms_record.proofs.KeptLists.{all_filter, all_passed, find_append, find_map, find_filter}
-use Rattle.kms_record.proofs.RisingLaws.{change_rises}
+use Rattle.kms_kept.proofs.KeptLists.{all_filter, all_passed, find_map, find_filter}
+use Rattle.kms_kept.proofs.KeyLookUps.{key_stays}
+use Rattle.kms_kept.proofs.KeyNumberLaws.{all_insert}
+use Rattle.kms_kept.proofs.RisingLaws.{change_rises}
 use Rattle.kms_opened.specs.Opened.{KeyOpens, OpensUnder, OpensSealed, OpensPayload, OpensRow, Opened, besides}
 use Rattle.kms_opened.specs.Steps.{OpensTo, HaveEffects, LeadTo}
 use Rattle.kms_opened.proofs.LookUps.{only_one}
-use Rattle.kms_opened.proofs.Zips.{all_push, all_map, all_any, zip_push, zip_to, zip_map, zip_filter, find_passes}
+use Rattle.kms_opened.proofs.Zips.{all_map, all_any, zip_push, zip_to, zip_map, zip_filter, find_passes}
 
 -- ---- all but the secrets
 
@@ -207,9 +209,9 @@ module _ (masters : List (List ℕ)) where
   unfolding renewed
   change_opens part (KeyAdded key) kept effect state o rising fits h =
       plainly kept state (KeyAdded key) effect h.1 (record {
-        keys = all_push (KeyOpens masters) kept.keys key o.keys h.0;
-        secrets = rows_with_keys kept state o (kept.keys ++ key ∷ []) (λ _. Unit {0})
-            (λ x p u put number token row plain numbered there unwraps. (row, find_append (is_key x.project number) kept.keys (key ∷ []) row there, unwraps)) (all_any kept.state.secrets);
+        keys = all_insert (KeyOpens masters) key kept.keys h.0 o.keys;
+        secrets = rows_with_keys kept state o (insert_key key kept.keys) (λ _. Unit {0})
+            (λ x p u put number token row plain numbered there unwraps. (row, key_stays part key kept fits x.project number row there, unwraps)) (all_any kept.state.secrets);
         others = o.others;
       })
   change_opens part (KeyRewrapped key) kept effect state o rising fits h =

@@ -6,8 +6,8 @@ use Rattle.kms_world.specs.declared.id.Id.{Id}
 use Rattle.kms_world.specs.declared.payload.Payload.{Payload}
 use Rattle.kms_world.specs.declared.secret.SecretRow.{SecretRow}
 use Rattle.kms_record.specs.declared.key.WrappedKey.{WrappedKey}
-use Rattle.kms_record.specs.Kept.{Kept, secret_ids, nothing_kept}
-use Rattle.kms_record.specs.Rising.{Rises, IsRising}
+use Rattle.kms_kept.specs.Kept.{Kept, secret_ids, nothing_kept}
+use Rattle.kms_kept.specs.Rising.{Rises, IsRising}
 use Rattle.kms_opened.specs.Opened.{OpensPayload, OpensRow, Opened, HasFittingPayload}
 
 -- ---- ids rise in it

@@ -12,10 +12,10 @@ use Rattle.kms_world.specs.declared.payload.Payload.{Payload}
 use Rattle.kms_world.specs.declared.secret.SecretRow.{SecretRow}
 use Rattle.kms_record.specs.declared.change.Change.TheVariants.{KeyAdded, SecretPut, PayloadPut, MetadataPut, Deleted}
 use Rattle.kms_record.specs.declared.key.WrappedKey.{WrappedKey}
-use Rattle.kms_record.specs.Kept.{Kept, Records, applies, changed, secret_ids}
-use Rattle.kms_record.specs.Rising.{IsRising}
+use Rattle.kms_kept.specs.Kept.{Kept, Records, applies, changed, secret_ids}
+use Rattle.kms_kept.specs.Rising.{IsRising}
 use Rattle.kms_record.specs.SecretPut.{row_of, put_of}
-use Rattle.kms_record.proofs.RisingLaws.{below_all}
+use Rattle.kms_kept.proofs.RisingLaws.{below_all}
 use Rattle.kms_opened.specs.Opened.{KeyOpens, OpensUnder, OpensRow, Opened}
 use Rattle.kms_opened.specs.Steps.{HasStep}
 use Rattle.kms_opened.proofs.LookUps.{given_of, found_sealed, find_last}

@@ -7,7 +7,7 @@ use Rattle.kms_world.specs.State.{State}
 use Rattle.kms_world.specs.declared.payload.Payload.{Payload}
 use Rattle.kms_world.specs.declared.secret.SecretRow.{SecretRow}
 use Rattle.kms_record.specs.declared.key.WrappedKey.{WrappedKey}
-use Rattle.kms_record.specs.Kept.{Kept, key_of}
+use Rattle.kms_kept.specs.Kept.{Kept, key_of}
 
 -- the wrapped key opens
 pub record KeyOpens (masters : List (List ℕ)) (row : WrappedKey) : Type 0 where

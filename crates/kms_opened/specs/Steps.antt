@@ -12,8 +12,8 @@ use Rattle.kms_record.specs.declared.change.Change.{Change}
 use Rattle.kms_record.specs.declared.change.Change.TheVariants.{KeyAdded, KeyRewrapped, TokenReplaced, PayloadPut}
 use Rattle.kms_record.specs.declared.key.WrappedKey.{WrappedKey}
 use Rattle.kms_record.specs.ChangeEffect.{effect_of}
-use Rattle.kms_record.specs.Kept.{Kept, Part, Records, key_of, applies, changed, after_changes}
-use Rattle.kms_record.specs.Rising.{IsRising}
+use Rattle.kms_kept.specs.Kept.{Kept, Part, Records, key_of, applies, changed, after_changes}
+use Rattle.kms_kept.specs.Rising.{IsRising}
 use Rattle.kms_opened.specs.Opened.{KeyOpens, OpensUnder, OpensSealed, Opened}
 
 -- What the change does to the opened state: a payload is put with the bytes to which its token opens under the key of its

@@ -2,9 +2,11 @@
 -- its token.
 use Rattle.std.specs.Prelude.{ℕ, ◌∷◌, ℤ, pos, negsuc, List, Option, Some, None, map, option_map}
 use Rattle.kms_world.specs.Id.{id_at}
+use Rattle.kms_world.specs.declared.id.Id.{Id}
 use Rattle.kms_world.specs.Effect.{Effect}
 use Rattle.kms_world.specs.Effect as effects
 use Rattle.kms_world.specs.declared.container.ContainerRow.{ContainerRow}
+use Rattle.kms_world.specs.declared.container.ConsumerRow.{ConsumerRow}
 use Rattle.kms_world.specs.declared.order.OrderState.{OrderState}
 use Rattle.kms_world.specs.declared.order.OrderState.TheVariants as order_states
 use Rattle.kms_world.specs.declared.order.OrderRow.{OrderRow}
@@ -13,6 +15,7 @@ use Rattle.kms_world.specs.declared.quota.QuotaRow.{QuotaRow}
 use Rattle.kms_record.specs.declared.change.Change.{Change}
 use Rattle.kms_record.specs.declared.change.Change.TheVariants.{KeyAdded, KeyRewrapped, TokenReplaced, KeyDropped, SecretPut, PayloadPut, MetadataPut, ContainerPut, ConsumerAdded, ConsumerDropped, AclPut, AclDropped, OrderPut, QuotaPut, Deleted}
 use Rattle.kms_record.specs.declared.container.ContainerPut.{ContainerPut as Container}
+use Rattle.kms_record.specs.declared.consumer.ConsumerAdded.{ConsumerAdded as Consumer}
 use Rattle.kms_record.specs.declared.member.Member.{Member}
 use Rattle.kms_record.specs.declared.order.OrderPut.{OrderPut as Order}
 use Rattle.kms_record.specs.declared.order.OrderPutState.{OrderPutState}
@@ -23,6 +26,9 @@ use Rattle.kms_record.specs.declared.quota.QuotaLimit.{QuotaLimit}
 use Rattle.kms_record.specs.declared.quota.QuotaLimit.TheVariants.{Unlimited, AtMost}
 use Rattle.kms_record.specs.SecretPut.{row_of}
 
+abbrev pub row_member : ℕ → Member → Option (List ℕ) × Id
+row_member tag member = (member.name, id_at tag member.secret)
+
 abbrev pub container_at : ℕ → Container → ContainerRow
 container_at tag put = record {
   id = id_at tag put.id;
@@ -32,8 +38,11 @@ container_at tag put = record {
   updated = put.updated;
   name = put.name;
   kind = put.kind;
-  secrets = map (λ (m : Member). (m.name, id_at tag m.secret)) put.members;
+  secrets = map (row_member tag) put.members;
 }
+
+abbrev pub consumer_at : ℕ → Consumer → ConsumerRow
+consumer_at tag put = record { container = id_at tag put.container; name = put.name; url = put.url; created = put.created }
 
 abbrev pub order_state_at : ℕ → OrderPutState → OrderState
 order_state_at tag Pending = order_states.Pending
@@ -86,7 +95,7 @@ effect_of tag (SecretPut put) = Some (effects.SecretPut (row_of tag put))
 effect_of tag (PayloadPut put) = Some (effects.PayloadPut (id_at tag put.secret) put.updated (record { media = put.media; bytes = put.number ∷ put.token }))
 effect_of tag (MetadataPut put) = Some (effects.MetadataPut (id_at tag put.secret) put.updated put.pairs)
 effect_of tag (ContainerPut put) = Some (effects.ContainerPut (container_at tag put))
-effect_of tag (ConsumerAdded put) = Some (effects.ConsumerAdded (record { container = id_at tag put.container; name = put.name; url = put.url; created = put.created }))
+effect_of tag (ConsumerAdded put) = Some (effects.ConsumerAdded (consumer_at tag put))
 effect_of tag (ConsumerDropped put) = Some (effects.ConsumerDropped (id_at tag put.container) put.name put.url)
 effect_of tag (AclPut put) = Some (effects.AclPut (acl_at tag put))
 effect_of tag (AclDropped id) = Some (effects.AclDropped (id_at tag id))

@@ -12,7 +12,7 @@ use crate::cursor::Cursor;
 use crate::read_error::ReadError;
 use crate::window::Window;
 use crate::{fields, range, spell};
-use kms_world::{Name, Names};
+use kms_world::{AclRow, Name, Names, id_of};
 use std::alloc::Global;
 
 /// A secret or container gets this access list, in the place of the one that it had. Times are whole seconds since 1970, below the year 10000.
@@ -43,9 +43,25 @@ pub fn read_acl_put(alloc: Global, cursor: &mut Cursor<'_>) -> Result<AclPut, Re
 }
 
 impl AclPut {
-    ghost use Rattle.std.specs.Prelude.{◌≡◌, ◌↔◌, IsTrue};
+    ghost use Rattle.std.specs.Prelude.{◌≡◌, ◌<◌, ◌^◌, ◌↔◌, IsTrue};
+    ghost use Rattle.kms_record.specs.ChangeEffect.{acl_at};
     ghost use Rattle.kms_record.specs.Window.{shown};
     ghost use Rattle.kms_record.specs.Acl.{acl_put_bytes, IsAclPutInRange, IsAclPutTyped};
+
+    /// The row that it puts under the store's tag.
+    pub fn into_row(self, tag: u64) -> AclRow
+        requires tag { tag < 2 ^ 60 }
+        requires range { IsAclPutInRange self }
+        ensures { result ≡ acl_at tag self }
+    {
+        AclRow {
+            target: id_of(tag, self.target),
+            project_access: self.project_access,
+            users: self.users,
+            created: self.created,
+            updated: self.updated,
+        }
+    }
 
     /// Its numbers and lengths are in their ranges.
     pub fn is_in_range(&self) -> bool

@@ -7,7 +7,7 @@ use crate::cursor::Cursor;
 use crate::read_error::ReadError;
 use crate::window::Window;
 use crate::{fields, range, spell};
-use kms_world::Text;
+use kms_world::{ConsumerRow, Text, id_of};
 use std::alloc::Global;
 
 /// A container gets a consumer.
@@ -40,9 +40,24 @@ pub fn read_consumer_added(
 }
 
 impl ConsumerAdded {
-    ghost use Rattle.std.specs.Prelude.{◌≡◌, ◌↔◌, IsTrue};
+    ghost use Rattle.std.specs.Prelude.{◌≡◌, ◌<◌, ◌^◌, ◌↔◌, IsTrue};
+    ghost use Rattle.kms_record.specs.ChangeEffect.{consumer_at};
     ghost use Rattle.kms_record.specs.Window.{shown};
     ghost use Rattle.kms_record.specs.Consumer.{consumer_added_bytes, IsConsumerAddedInRange, IsConsumerAddedTyped};
+
+    /// The row that it puts under the store's tag.
+    pub fn into_row(self, tag: u64) -> ConsumerRow
+        requires tag { tag < 2 ^ 60 }
+        requires range { IsConsumerAddedInRange self }
+        ensures { result ≡ consumer_at tag self }
+    {
+        ConsumerRow {
+            container: id_of(tag, self.container),
+            name: self.name,
+            url: self.url,
+            created: self.created,
+        }
+    }
 
     /// Its numbers and lengths are in their ranges.
     pub fn is_in_range(&self) -> bool

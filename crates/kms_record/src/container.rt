@@ -11,7 +11,7 @@ use crate::cursor::Cursor;
 use crate::read_error::ReadError;
 use crate::window::Window;
 use crate::{Member, MemberList, fields, range, spell};
-use kms_world::{ContainerKind, Name, Text};
+use kms_world::{ContainerKind, ContainerRow, Name, NoMemory, Text, id_of};
 use std::alloc::Global;
 
 /// A container comes, or takes the place of the one with this id. Times are whole seconds since 1970, below the year 10000.
@@ -49,9 +49,28 @@ pub fn read_container_put(alloc: Global, cursor: &mut Cursor<'_>) -> Result<Cont
 }
 
 impl ContainerPut {
-    ghost use Rattle.std.specs.Prelude.{◌≡◌, ◌↔◌, IsTrue};
+    ghost use Rattle.std.specs.Prelude.{◌≡◌, ◌<◌, ◌^◌, ◌↔◌, IsTrue, IfOk};
+    ghost use Rattle.kms_record.specs.ChangeEffect.{container_at};
     ghost use Rattle.kms_record.specs.Window.{shown};
     ghost use Rattle.kms_record.specs.Container.{container_put_bytes, IsContainerPutInRange, IsContainerPutTyped};
+
+    /// The row that it puts under the store's tag.
+    pub fn into_row(self, alloc: Global, tag: u64) -> Result<ContainerRow, NoMemory>
+        requires tag { tag < 2 ^ 60 }
+        requires range { IsContainerPutInRange self }
+        ensures { IfOk result (λ row. row ≡ container_at tag self) }
+    {
+        Ok(ContainerRow {
+            id: id_of(tag, self.id),
+            project: self.project,
+            creator: self.creator,
+            created: self.created,
+            updated: self.updated,
+            name: self.name,
+            kind: self.kind,
+            secrets: self.members.into_secrets(alloc, tag)?,
+        })
+    }
 
     /// Its numbers and lengths are in their ranges.
     pub fn is_in_range(&self) -> bool

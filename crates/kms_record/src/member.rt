@@ -1,7 +1,10 @@
 // The secrets that a container names.
-ghost use Rattle.std.specs.Prelude.{◌≡◌, ◌++◌, [], ◌∷◌, OnOk, OnErr};
+ghost use Rattle.std.specs.Prelude.{◌≡◌, ◌<◌, ◌^◌, ◌++◌, [], ◌∷◌, map, OnOk, OnErr, IfOk};
+ghost use Rattle.std.specs.List.{AllByRecursion};
+ghost use Rattle.kms_record.specs.ChangeEffect.{row_member};
+ghost use Rattle.kms_record.specs.Container.{IsMemberInRange};
 
-use kms_world::{NoMemory, Text};
+use kms_world::{Id, Members, NoMemory, Text, id_of};
 use std::alloc::Global;
 use std::marker::Model;
 
@@ -12,6 +15,21 @@ pub struct Member {
     pub name: Option<Text>,
     /// the count of the secret's id under the store's tag, below 2^62
     pub secret: u64,
+}
+
+impl Member {
+    ghost use Rattle.std.specs.Prelude.{◌≡◌, ◌<◌, ◌^◌};
+    ghost use Rattle.kms_record.specs.ChangeEffect.{row_member};
+    ghost use Rattle.kms_record.specs.Container.{IsMemberInRange};
+
+    /// The member of a container's row, under the store's tag.
+    pub fn into_secret(self, tag: u64) -> (Option<Text>, Id)
+        requires tag { tag < 2 ^ 60 }
+        requires range { IsMemberInRange self }
+        ensures { result ≡ row_member tag self }
+    {
+        (self.name, id_of(tag, self.secret))
+    }
 }
 
 /// The secrets that a container names, in their order. Contracts see the list.
@@ -53,6 +71,19 @@ impl MemberList {
         ensures { result.now ≡ self.now }
     {
         &self.members
+    }
+
+    /// The members of a container's row, under the store's tag.
+    pub fn into_secrets(self, alloc: Global, tag: u64) -> Result<Members, NoMemory>
+        requires tag { tag < 2 ^ 60 }
+        requires range { AllByRecursion IsMemberInRange self }
+        ensures { IfOk result (λ secrets. secrets ≡ map (row_member tag) self) }
+    {
+        let mut secrets = Members::new(alloc);
+        for member in self.members {
+            secrets.push(member.into_secret(tag))?;
+        }
+        Ok(secrets)
     }
 
     /// The members, with the memory that they have.

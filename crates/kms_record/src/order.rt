@@ -9,7 +9,7 @@ use crate::cursor::Cursor;
 use crate::read_error::{Malformed, ReadError};
 use crate::window::Window;
 use crate::{fields, range, spell};
-use kms_world::{Cause, Name, Text};
+use kms_world::{Cause, Name, OrderRow, OrderState, Text, id_of};
 use std::alloc::Global;
 
 /// How far an order has come.
@@ -65,10 +65,51 @@ pub fn read_order_put(alloc: Global, cursor: &mut Cursor<'_>) -> Result<OrderPut
     })
 }
 
+impl OrderPutState {
+    ghost use Rattle.std.specs.Prelude.{◌≡◌, ◌<◌, ◌^◌};
+    ghost use Rattle.kms_record.specs.ChangeEffect.{order_state_at};
+    ghost use Rattle.kms_record.specs.Order.{IsStateInRange};
+
+    /// The state of the row under the store's tag.
+    pub fn into_state(self, tag: u64) -> OrderState
+        requires tag { tag < 2 ^ 60 }
+        requires range { IsStateInRange self }
+        ensures { result ≡ order_state_at tag self }
+    {
+        match self {
+            OrderPutState::Pending => OrderState::Pending,
+            OrderPutState::Active(secret) => OrderState::Active(id_of(tag, secret)),
+            OrderPutState::Error(cause) => OrderState::Error(cause),
+        }
+    }
+}
+
 impl OrderPut {
-    ghost use Rattle.std.specs.Prelude.{◌≡◌, ◌↔◌, IsTrue};
+    ghost use Rattle.std.specs.Prelude.{◌≡◌, ◌<◌, ◌^◌, ◌↔◌, IsTrue};
+    ghost use Rattle.kms_record.specs.ChangeEffect.{order_at};
     ghost use Rattle.kms_record.specs.Window.{shown};
     ghost use Rattle.kms_record.specs.Order.{order_put_bytes, IsOrderPutInRange, IsOrderPutTyped};
+
+    /// The row that it puts under the store's tag.
+    pub fn into_row(self, tag: u64) -> OrderRow
+        requires tag { tag < 2 ^ 60 }
+        requires range { IsOrderPutInRange self }
+        ensures { result ≡ order_at tag self }
+    {
+        OrderRow {
+            id: id_of(tag, self.id),
+            project: self.project,
+            creator: self.creator,
+            created: self.created,
+            updated: self.updated,
+            algorithm: self.algorithm,
+            bit_length: self.bit_length,
+            mode: self.mode,
+            name: self.name,
+            expiration: self.expiration,
+            state: self.state.into_state(tag),
+        }
+    }
 
     /// Its numbers and lengths are in their ranges.
     pub fn is_in_range(&self) -> bool

@@ -1,5 +1,6 @@
 // Quotas of projects.
-ghost use Rattle.std.specs.Prelude.{◌≡◌, ◌↔◌, IsTrue, IfSome};
+ghost use Rattle.std.specs.Prelude.{◌≡◌, ◌↔◌, IsTrue, IfSome, option_map};
+ghost use Rattle.kms_record.specs.ChangeEffect.{limit_value};
 ghost use Rattle.kms_record.specs.Fields.{option_bytes};
 ghost use Rattle.kms_record.specs.Quota.{limit_bytes, limits_bytes, IsLimitInRange, AreLimitsInRange};
 ghost use Rattle.kms_record.specs.Reading.{Finds, option_at};
@@ -10,7 +11,7 @@ use crate::cursor::Cursor;
 use crate::read_error::Malformed;
 use crate::window::Window;
 use crate::{fields, range, spell};
-use kms_world::Name;
+use kms_world::{Name, QuotaRow};
 
 /// A limit of a quota.
 #[derive(Clone, Copy, Debug)]
@@ -27,6 +28,42 @@ pub struct QuotaLimits {
     pub orders: Option<QuotaLimit>,
     pub containers: Option<QuotaLimit>,
     pub consumers: Option<QuotaLimit>,
+}
+
+fn limit_value(limit: QuotaLimit) -> i64
+    ensures { result ≡ limit_value limit }
+{
+    match limit {
+        QuotaLimit::Unlimited => -1,
+        QuotaLimit::AtMost(count) => i64::from(count),
+    }
+}
+
+fn optional_limit_value(limit: Option<QuotaLimit>) -> Option<i64>
+    ensures { result ≡ option_map limit_value limit }
+{
+    match limit {
+        None => None,
+        Some(limit) => Some(limit_value(limit)),
+    }
+}
+
+impl QuotaLimits {
+    ghost use Rattle.std.specs.Prelude.{◌≡◌};
+    ghost use Rattle.kms_record.specs.ChangeEffect.{quota_at};
+
+    /// The row of these limits of a project.
+    pub fn into_row(self, project: Name) -> QuotaRow
+        ensures { result ≡ quota_at project self }
+    {
+        QuotaRow {
+            project,
+            secrets: optional_limit_value(self.secrets),
+            orders: optional_limit_value(self.orders),
+            containers: optional_limit_value(self.containers),
+            consumers: optional_limit_value(self.consumers),
+        }
+    }
 }
 
 /// A project gets these quotas, in the place of those that it had; without limits its row goes.

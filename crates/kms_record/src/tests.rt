@@ -6,10 +6,10 @@ ghost use Rattle.kms_record.specs.Base.{IsBaseInRange};
 use crate::base::count_of;
 use crate::rows::parts;
 use crate::{
-    BaseChange, Change, SecretPut, Step, WrappedKey, base_len, base_piece, decode_base,
-    decode_body, encode_step,
+    BaseChange, Change, ContainerPut, Member, MemberList, SecretPut, Step, WrappedKey, base_len,
+    base_piece, decode_base, decode_body, encode_step,
 };
-use kms_world::{Bytes, Name, NoMemory, SecretKind, Text};
+use kms_world::{Bytes, ContainerKind, Name, NoMemory, SecretKind, Text, id_of};
 use std::alloc::Global;
 use std::rt::HostRuntime;
 use std::test::Fail;
@@ -244,5 +244,34 @@ fn rows_go_out_in_pieces(rt: HostRuntime) -> Result<(), Fail> {
         spelled.as_slice().len(),
         bytes.as_slice().len().saturating_add(2)
     );
+    Ok(())
+}
+
+#[test]
+fn containers_become_rows(rt: HostRuntime) -> Result<(), Fail> {
+    let alloc = rt.alloc();
+    let mut members = MemberList::new(alloc);
+    for secret in 5..7u64 {
+        members.push(Member {
+            name: Some(Text::of(alloc, "m")?),
+            secret,
+        })?;
+    }
+    let put = ContainerPut {
+        id: 4,
+        project: Name::read("p1".as_bytes()).ok_or("a project")?,
+        creator: Name::read("u1".as_bytes()).ok_or("a creator")?,
+        created: 1,
+        updated: 2,
+        name: None,
+        kind: ContainerKind::Generic,
+        members,
+    };
+    assert!(rt; put.is_in_range());
+    let row = put.into_row(alloc, 77)?;
+    assert!(rt; row.id == id_of(77, 4));
+    let secrets = row.secrets.as_slice();
+    assert_eq!(rt; secrets.len(), 2);
+    assert!(rt; secrets.iter().any(|member| member.1 == id_of(77, 6)));
     Ok(())
 }

@@ -1,0 +1,13 @@
+pub mod Apart
+pub mod Deletion
+pub mod Joined
+pub mod Kept
+pub mod KeyNumbers
+pub mod Named
+pub mod OfGrammar
+pub mod Once
+pub mod Orders
+pub mod Rising
+pub mod Sealed
+pub mod Snapshot
+pub mod Sound
