@@ -1,0 +1,10 @@
+pub mod DamageLaws
+pub mod EditLaws
+pub mod KeysLaws
+pub mod LoadLaws
+pub mod ReadyLaws
+pub mod SettleLaws
+pub mod StagedLaws
+pub mod StandsLaws
+pub mod TableLaws
+pub mod TablesLaws

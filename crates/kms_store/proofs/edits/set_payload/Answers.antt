@@ -1,0 +1,13 @@
+use Rattle.std.proofs.Common.{sym, ◌∙◌}
+use Rattle.kms_world.specs.Effect.{with_payload}
+use Rattle.kms_kept.specs.Snapshot.{sealed}
+use Rattle.kms_world.specs.declared.secret.SecretRow.{SecretRow}
+use Rattle.kms_store.proofs.TableLaws.{changed_there, changed_nowhere}
+use Rattle.kms_store.proofs.edits.set_payload.Goals as goal
+
+pub returns-in-Some : goal.returns-in-Some
+returns-in-Some c =
+    changed_there (λ (r : SecretRow). r.id) c.args.id (with_payload c.args.updated (sealed c.args.number c.args.payload)) c.index-secrets-at.result _ c.args.secrets.now c.in-Some.at c.requires (sym c.find_at.ensures ∙ c.in-Some.is) c.set_payload.ensures
+
+pub returns-in_default : goal.returns-in_default
+returns-in_default c = changed_nowhere (λ (r : SecretRow). r.id) c.args.id (with_payload c.args.updated (sealed c.args.number c.args.payload)) c.args.secrets.now (sym c.find_at.ensures ∙ c.in_default.is)

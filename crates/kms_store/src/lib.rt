@@ -1,0 +1,31 @@
+//! The rows of a store in tables, and the steps that are staged on them until they are settled on the disk.
+#![tactic(auto)]
+
+mod applies;
+mod apply;
+mod edits;
+mod kept_secret;
+mod keys;
+pub mod laws;
+mod load_fault;
+mod loading;
+mod part;
+mod ready;
+mod ready_step;
+mod row;
+mod rows;
+mod staged;
+mod store;
+mod table;
+mod tables;
+#[cfg(test)]
+mod tests;
+
+pub use kept_secret::KeptSecret;
+pub use load_fault::LoadFault;
+pub use loading::load;
+pub use part::Part;
+pub use ready::Ready;
+pub use ready_step::ReadyStep;
+pub use store::Store;
+pub use tables::Tables;

@@ -1,0 +1,128 @@
+// Rows in tables, and rows by what names them.
+ghost use Rattle.std.specs.Prelude.{◌≡◌, ◌<◌, ◌≤◌, ◌+◌, ◌^◌, option_copied, OnOk, ℕ};
+ghost use Rattle.kms_world.specs.LookUp.{secret_of, container_of, order_of, acl_of, quota_of};
+ghost use Rattle.kms_kept.specs.Kept.{is_taken, kept_first, key_of};
+ghost use Rattle.kms_store.specs.Rows.{kept_in, AreOrdered, HasSpace};
+ghost use Rattle.kms_store.specs.Table.{Rises};
+
+use crate::KeptSecret;
+use crate::keys::key_in;
+use crate::table::found;
+use kms_record::WrappedKey;
+use kms_world::{AclRow, ConsumerRow, ContainerRow, Id, Name, NoMemory, OrderRow, QuotaRow};
+use std::alloc::Global;
+
+/// The rows of a store in their tables, each in order of creation, and the wrapped keys.
+#[derive(Drop)]
+pub(crate) struct Rows {
+    pub(crate) tag: u64,
+    pub(crate) ids: u64,
+    pub(crate) secrets: Vec<KeptSecret>,
+    pub(crate) containers: Vec<ContainerRow>,
+    pub(crate) consumers: Vec<ConsumerRow>,
+    pub(crate) orders: Vec<OrderRow>,
+    pub(crate) acls: Vec<AclRow>,
+    pub(crate) quotas: Vec<QuotaRow>,
+    pub(crate) keys: Vec<WrappedKey>,
+}
+
+fn acl_in(acls: &[AclRow], target: Id) -> Option<&AclRow>
+    ensures { option_copied result ≡ acl_of target acls.now }
+{
+    acls.iter().find(|row| row.target.0 == target.0)
+}
+
+fn quota_in<'a>(quotas: &'a [QuotaRow], project: &Name) -> Option<&'a QuotaRow>
+    ensures { option_copied result ≡ quota_of project.now quotas.now }
+{
+    quotas
+        .iter()
+        .find(|row| project.as_bytes() == row.project.as_bytes())
+}
+
+impl Rows {
+    /// No rows, under this tag and where so many ids were given.
+    pub(crate) fn first(alloc: Global, tag: u64, ids: u64) -> Rows
+        requires tag { tag < 2 ^ 60 }
+        requires ids { ids ≤ 2 ^ 62 }
+        ensures kept { kept_in result ≡ kept_first tag ids }
+        ensures space { HasSpace 0 result }
+        ensures ordered { AreOrdered result }
+    {
+        Rows {
+            tag,
+            ids,
+            secrets: Vec::new(alloc),
+            containers: Vec::new(alloc),
+            consumers: Vec::new(alloc),
+            orders: Vec::new(alloc),
+            acls: Vec::new(alloc),
+            quotas: Vec::new(alloc),
+            keys: Vec::new(alloc),
+        }
+    }
+
+    /// Memory for so many rows more in each table. The rows are as before.
+    pub(crate) fn reserve(&mut self, rows: usize) -> Result<(), NoMemory>
+        ensures kept { kept_in self.new ≡ kept_in self.old }
+        ensures ok { OnOk result (HasSpace rows self.new) }
+        ensures space { (n : ℕ) → HasSpace n self.old → HasSpace n self.new }
+    {
+        self.secrets.reserve(rows)?;
+        self.containers.reserve(rows)?;
+        self.consumers.reserve(rows)?;
+        self.orders.reserve(rows)?;
+        self.acls.reserve(rows)?;
+        self.quotas.reserve(rows)?;
+        self.keys.reserve(rows)?;
+        Ok(())
+    }
+
+    pub(crate) fn secret(&self, id: Id) -> Option<&KeptSecret>
+        requires { AreOrdered self.now }
+        ensures { option_copied result ≡ secret_of id self.now.secrets.items }
+    {
+        found(&self.secrets, id)
+    }
+
+    pub(crate) fn container(&self, id: Id) -> Option<&ContainerRow>
+        requires { AreOrdered self.now }
+        ensures { option_copied result ≡ container_of id self.now.containers.items }
+    {
+        found(&self.containers, id)
+    }
+
+    pub(crate) fn order(&self, id: Id) -> Option<&OrderRow>
+        requires { AreOrdered self.now }
+        ensures { option_copied result ≡ order_of id self.now.orders.items }
+    {
+        found(&self.orders, id)
+    }
+
+    pub(crate) fn acl(&self, target: Id) -> Option<&AclRow>
+        ensures { option_copied result ≡ acl_of target self.now.acls.items }
+    {
+        acl_in(&self.acls, target)
+    }
+
+    pub(crate) fn quota(&self, project: &Name) -> Option<&QuotaRow>
+        ensures { option_copied result ≡ quota_of project.now self.now.quotas.items }
+    {
+        quota_in(&self.quotas, project)
+    }
+
+    pub(crate) fn key(&self, project: &Name, number: u32) -> Option<&WrappedKey>
+        requires { AreOrdered self.now }
+        ensures { option_copied result ≡ key_of project.now number self.now.keys.items }
+    {
+        key_in(&self.keys, project, number)
+    }
+
+    /// A secret, container or order has this id.
+    pub(crate) fn is_taken(&self, id: Id) -> bool
+        requires { AreOrdered self.now }
+        ensures { result ≡ is_taken (kept_in self.now).state id }
+    {
+        self.secret(id).is_some() || self.container(id).is_some() || self.order(id).is_some()
+    }
+}
