@@ -1,10 +1,6 @@
-pub mod DamageLaws
-pub mod FoundLaws
-pub mod KeysLaws
-pub mod LoadLaws
 pub mod PostLaws
 pub mod RouteLaws
 pub mod SettleLaws
+pub mod ShownLaws
 pub mod StandsLaws
 pub mod StartLaws
-pub mod WaitingLaws

@@ -1,25 +1,33 @@
 -- The step of a new secret leads to the state with it.
-use Rattle.std.specs.Prelude.{nat_lt}
+use Rattle.std.specs.Prelude.{nat_lt, IfOk, Result, Err}
 use Rattle.std.proofs.lemmas.Bool.{le-leb}
-use Rattle.std.proofs.Common.{◌≡◌, ℕ, ◌^◌, ◌<◌, true, subst, List, [], None, Ok, refl, sym, ap, ◌∙◌}
-use Rattle.kms_world.specs.Effect.{SecretPut, after_effect, after_effects}
+use Rattle.std.proofs.Common.{◌≡◌, ℕ, ◌==◌, ◌≤◌, ◌+◌, ◌*◌, ◌^◌, ◌<◌, true, List, [], ◌∷◌, length, Some, None, Ok, refl, sym, ap, subst, ◌∙◌, arith}
+use Rattle.kms_world.specs.Effect as effects
+use Rattle.kms_world.specs.Effect.{after_effect, after_effects}
 use Rattle.kms_world.specs.State.{State}
 use Rattle.kms_world.specs.declared.body.SecretBody.{SecretBody}
 use Rattle.kms_world.specs.declared.caller.Caller.{Caller}
-use Rattle.kms_world.specs.declared.id.Id.{Id}
 use Rattle.kms_world.specs.declared.secret.SecretKind.TheVariants.{Opaque}
-use Rattle.kms_world.specs.declared.secret.SecretRow.{SecretRow}
 use Rattle.kms_model.specs.Done.{effects_by}
-use Rattle.kms_model.specs.Secrets.{has_id, next_id, is_short_name, new_secret, other_field, posted}
+use Rattle.kms_model.specs.Secrets.{has_id, is_short_name, other_field, posted}
+use Rattle.kms_record.specs.declared.change.Change.{Change}
+use Rattle.kms_record.specs.declared.change.Change.TheVariants.{SecretPut}
+use Rattle.kms_record.specs.declared.secret_put.SecretPut as put_type
+use Rattle.kms_record.specs.Grammar.{IsStepInRange, step_bytes}
+use Rattle.kms_record.specs.SecretPut.{IsInRange, row_of}
+use Rattle.kms_record.proofs.SizeLaws.{step_is_short_lem}
+use Rattle.kms_kept.specs.Kept.{Kept, after_step, changed}
+use Rattle.kms_store.specs.ReadyStep.{TaggedStep}
+use Rattle.kms_store.specs.Store.{IsReserved}
+use Rattle.kms_core.specs.Steps.{Held, LeadsTo}
 
--- where the ids in memory aren't at their end, an id is left
-pub id_left : (inside ids : ℕ) → inside < 2 ^ 62 → inside ≡ ids → nat_lt ids (2 ^ 62) ≡ true
-id_left inside ids less same = le-leb _ _ (subst (λ (n : ℕ). n < 2 ^ 62) same less)
+eqb_same : (n : ℕ) → (n == n) ≡ true
+eqb_same n = grind arith
 
--- a new secret with this id and these metadata
-abbrev pub row_of : Caller → SecretBody → ℕ → Id → List (List ℕ × List ℕ) → SecretRow
-row_of caller body t id metadata = record {
-  id = id;
+-- what puts a new secret
+abbrev pub put_for : State → Caller → SecretBody → ℕ → put_type.SecretPut
+put_for s caller body t = record {
+  id = s.ids;
   project = caller.project;
   creator = caller.user;
   created = t;
@@ -30,17 +38,44 @@ row_of caller body t id metadata = record {
   mode = None;
   kind = Opaque;
   expiration = None;
-  payload = None;
-  metadata = metadata;
 }
 
-effects_of : (s : State) (caller : Caller) (body : SecretBody) (t : ℕ) → is_short_name body.name ≡ true → other_field body ≡ None → has_id s ≡ true
-    → after_effects (effects_by (posted s caller (Ok body) t)) s ≡ after_effect (SecretPut (new_secret s caller body t)) s
-effects_of s caller body t short alone left = rw (short, alone, left) refl
+pub put_leads : (kept : Kept) (put : put_type.SecretPut) → put.id ≡ kept.state.ids → kept.state.ids < 2 ^ 62 → after_step (SecretPut put ∷ []) kept ≡ Some (changed (SecretPut put) kept)
+put_leads kept put same lt =
+    let small : nat_lt put.id (2 ^ 62) ≡ true = ap (λ (n : ℕ). nat_lt n (2 ^ 62)) same ∙ le-leb _ _ lt in
+    let equal = ap (λ (n : ℕ). n == kept.state.ids) same ∙ eqb_same kept.state.ids in
+    rw (equal, small) refl
 
-pub post_leads : (s : State) (caller : Caller) (body : SecretBody) (t : ℕ) (id : Id) (metadata : List (List ℕ × List ℕ)) → is_short_name body.name ≡ true → other_field body ≡ None → has_id s ≡ true
-    → id ≡ next_id s → metadata ≡ [] → after_effect (SecretPut (row_of caller body t id metadata)) s ≡ after_effects (effects_by (posted s caller (Ok body) t)) s
-post_leads s caller body t id metadata short alone left next none =
-    ap (λ (i : Id). after_effect (SecretPut (row_of caller body t i metadata)) s) next
-    ∙ ap (λ (m : List (List ℕ × List ℕ)). after_effect (SecretPut (row_of caller body t (next_id s) m)) s) none
-    ∙ sym (effects_of s caller body t short alone left)
+-- the state after it
+pub put_applies : (kept : Kept) (caller : Caller) (body : SecretBody) (t : ℕ) → is_short_name body.name ≡ true → other_field body ≡ None → has_id kept.state ≡ true
+    → (changed (SecretPut (put_for kept.state caller body t)) kept).state ≡ after_effects (effects_by (posted kept.state caller (Ok body) t)) kept.state
+put_applies kept caller body t short alone left = rw (short, alone, left) refl
+
+pub put_is_short : (put : put_type.SecretPut) → IsInRange put → length (step_bytes (SecretPut put ∷ [])) < 2 ^ 16
+put_is_short put range =
+    let step : List Change = SecretPut put ∷ [] in
+    let in_range : IsStepInRange step = record { some = omega arith; few = omega arith; each = (range, tt) } in
+    omega (arith, step_is_short_lem step in_range)
+
+-- fewer than 1,152 steps wait, and there is room for this one
+pub put_fits : (put : put_type.SecretPut) (step : List Change) (waiting : List ℕ) (count : ℕ) → step ≡ SecretPut put ∷ [] → IsInRange put → length waiting ≤ 2 ^ 16 * count → count < 1152
+    → length waiting + length (step_bytes step) < 2 ^ 27
+put_fits put step waiting count is range short few =
+    let one : length (step_bytes step) < 2 ^ 16 = subst (λ (s : List Change). length (step_bytes s) < 2 ^ 16) (sym is) (put_is_short put range) in
+    omega (arith, one, short, few)
+
+-- the step that was reserved leads on
+pub leads_by : {E : Type 0} (result : Result TaggedStep E) (after : Held) (kept : Kept) (seen : State) (put : put_type.SecretPut) (step : List Change) → step ≡ SecretPut put ∷ [] → IsInRange put → put.id ≡ seen.ids
+    → kept.state ≡ seen → after.store.stored.kept ≡ kept → IfOk result (λ r. r.changes ≡ step) → IfOk result (IsReserved after.store.stored)
+    → IfOk result (λ r. LeadsTo r after (after_effect (effects.SecretPut (row_of seen.tag put)) seen))
+leads_by (Ok r) after kept seen put step is range new same held changes reserved =
+    let one : r.changes ≡ SecretPut put ∷ [] = changes ∙ is in
+    record {
+      reserved = reserved;
+      short = subst (λ (s : List Change). length (step_bytes s) < 2 ^ 16) (sym one) (put_is_short put range);
+      kept = changed (SecretPut put) kept;
+      leads = ap (λ (s : List Change). after_step s after.store.stored.kept) one ∙ ap (after_step (SecretPut put ∷ [])) held
+          ∙ put_leads kept put (new ∙ ap (λ (s : State). s.ids) (sym same)) (subst (λ (n : ℕ). n < 2 ^ 62) (new ∙ ap (λ (s : State). s.ids) (sym same)) range.id);
+      is = ap (λ (s : State). after_effect (effects.SecretPut (row_of s.tag put)) s) same;
+    }
+leads_by (Err e) after kept seen put step is range new same held changes reserved = tt

@@ -1,109 +1,44 @@
--- What a store stands for is one state, and each record leads on.
-use Rattle.std.proofs.Common.{◌≡◌, inl, inr, ℕ, ◌+◌, ◌^◌, ◌<◌, Bool, true, List, [], ◌∷◌, ◌++◌, length, Some, None, refl, sym, ap, subst, ◌∙◌, arith}
-use Rattle.std.proofs.lemmas.Bool.{false≢true}
+-- What a store stands for is one state.
+use Rattle.std.proofs.Common.{◌≡◌, ℕ, ◌^◌, ◌<◌, List, Some, None, refl, sym, ap, subst, ◌∙◌}
+use Rattle.std.specs.Prelude.{Result, Ok, Err}
+use Rattle.kms_host.specs.Disk.{files}
+use Rattle.kms_host.specs.History.{History}
 use Rattle.kms_world.specs.State.{State, empty_state}
-use Rattle.kms_record.specs.declared.change.Change.{Change}
-use Rattle.kms_record.specs.Fields.{u64_bytes}
-use Rattle.kms_record.specs.Grammar.{IsRecord, IsSnapshot, AreSteps, record_bytes}
-use Rattle.kms_record.specs.Kept.{Kept}
-use Rattle.kms_record.specs.SecretsOnly.{after_secret_record}
-use Rattle.kms_record.proofs.GrammarLaws.{record_again}
-use Rattle.kms_journal.specs.Commit.{frame}
-use Rattle.kms_journal.specs.Create.{fresh, no_changes}
-use Rattle.kms_journal.specs.Standing.{Standing, record_in, with_framed}
-use Rattle.kms_journal.proofs.RestLaws.{frame_holds}
-use Rattle.kms_core.specs.Stands.{Applies, LeadTo, KeptOf, Stands, HaveSteps, HasSteps, IsBroken, BreakAt, IsDamagedAt, kept_as, kept_first}
+use Rattle.kms_journal.specs.Create.{fresh}
+use Rattle.kms_journal.specs.Standing.{Standing, standing_of}
+use Rattle.kms_kept.specs.Kept.{Kept, nothing_kept}
+use Rattle.kms_store.specs.Stands.{IsDamagedAt}
+use Rattle.kms_store.proofs.StandsLaws.{some_is, stand_for_one, undamaged, fresh_kept, fresh_counted}
+use Rattle.kms_core.specs.Stands.{Stands}
+use Rattle.kms_core.specs.Starting.{Starts, OpensTo}
+use Rattle.kms_core.specs.Steps.{Held}
+use Rattle.kms_core.specs.declared.start_fault.StartFault.{StartFault}
+use Rattle.kms_core.specs.declared.start_fault.StartFault.TheVariants as start
 
-pub some_is : {A : Type 0} (x y : A) → Some x ≡ Some y → x ≡ y
-some_is x y e = cc
-
-pub one_reading : (bytes : List ℕ) (a b : List (List Change)) → IsRecord bytes a → IsRecord bytes b → a ≡ b
-one_reading bytes a b p q = some_is a b (sym (record_again bytes a p) ∙ record_again bytes b q)
-
-pub applies_once : (bytes : List ℕ) (kept a b : Kept) → Applies bytes kept a → Applies bytes kept b → a ≡ b
-applies_once bytes kept a b p q =
-    some_is a b (sym p.leads ∙ ap (λ (steps : List (List Change)). after_secret_record steps kept) (one_reading bytes p.steps q.steps p.read q.read) ∙ q.leads)
-
-pub leads_once : (items : List (ℕ × List ℕ)) (kept a b : Kept) → LeadTo items kept a → LeadTo items kept b → a ≡ b
-leads_once [] kept a b p q = sym p ∙ q
-leads_once (item ∷ items) kept a b p q =
-    leads_once items q.0 a b (subst (λ (k : Kept). LeadTo items k a) (applies_once item.1 kept p.0 q.0 p.1 q.1) p.2) q.2
-
-pub one_kept : (s : Standing) (a b : Kept) → KeptOf s a → KeptOf s b → a ≡ b
-one_kept s a b p q = leads_once s.records (kept_first s.tag s.ids) a b p.records q.records
-
-counts_once : (items : List (ℕ × List ℕ)) (m n : ℕ) → HaveSteps items m → HaveSteps items n → m ≡ n
-counts_once [] m n p q = p ∙ sym q
-counts_once (item ∷ items) m n p q =
-    let rest = counts_once items p.1 q.1 p.3 q.3 in
-    let steps : length p.0 ≡ length q.0 = ap length (one_reading item.1 p.0 q.0 p.2 q.2) in
-    omega (arith, p.4, q.4, rest, steps)
-
-pub one_count : (s : Standing) (m n : ℕ) → HasSteps s m → HasSteps s n → m ≡ n
-one_count s m n p q = omega (arith, p.2, q.2, counts_once s.records p.0 q.0 p.1 q.1)
-
-pub one_state : (files : List ℕ × List ℕ) (a b : State) (m n : ℕ) → Stands files a m → Stands files b n → (a ≡ b) × (m ≡ n)
-one_state files a b m n p q =
-    let same : p.standing ≡ q.standing = some_is p.standing q.standing (sym p.current ∙ q.current) in (
-      ap (λ (k : Kept). k.state) (one_kept q.standing (kept_as a) (kept_as b) (subst (λ (s : Standing). KeptOf s (kept_as a)) same p.kept) q.kept),
-      one_count q.standing m n (subst (λ (s : Standing). HasSteps s m) same p.counted) q.counted,
+pub one_state : (two : List ℕ × List ℕ) (a b : State) (m n : ℕ) → Stands two a m → Stands two b n → (a ≡ b) × (m ≡ n)
+one_state two a b m n p q =
+    let one = stand_for_one two p.kept q.kept m n p.files q.files in (
+      sym p.is ∙ ap (λ (k : Kept). k.state) one.0 ∙ q.is,
+      one.1,
     )
 
--- records that lead on have a number of steps
-counts_of : (items : List (ℕ × List ℕ)) (kept after : Kept) → LeadTo items kept after → (n : ℕ) × HaveSteps items n
-counts_of [] kept after p = (0, refl)
-counts_of (item ∷ items) kept after p = let rest = counts_of items p.0 after p.2 in (length p.1.steps + rest.0, (p.1.steps, rest.0, p.1.read, rest.1, refl))
+-- what stands for a state has no damage
+pub no_damage : (two : List ℕ × List ℕ) (state : State) (steps : ℕ) (s : Standing) (place : ℕ) → Stands two state steps → standing_of two ≡ Some s → IsDamagedAt s place → ⊥
+no_damage two state steps s place stands is damaged =
+    let same : s ≡ stands.files.standing = some_is s stands.files.standing (sym is ∙ stands.files.current) in
+    undamaged stands.files.standing stands.kept place stands.files.keeps (subst (λ (x : Standing). IsDamagedAt x place) same damaged)
 
-pub kept_counts : (s : Standing) (kept : Kept) → KeptOf s kept → (n : ℕ) × HasSteps s n
-kept_counts s kept p = let all = counts_of s.records (kept_first s.tag s.ids) kept p.records in (s.steps + all.0, (all.0, all.1, refl))
-
-pub fresh_counted : (tag : ℕ) → HasSteps (fresh tag) 0
-fresh_counted tag = (0, refl, refl)
-
-pub applies_or_not : (bytes : List ℕ) (kept after : Kept) → Applies bytes kept after → IsBroken bytes kept → ⊥
-applies_or_not bytes kept after p broken = let e : Some after ≡ None = sym p.leads ∙ broken p.steps p.read in cc
-
-unbroken : (items : List (ℕ × List ℕ)) (stop place : ℕ) (is_whole : Bool) (kept after : Kept) → is_whole ≡ true → LeadTo items kept after → BreakAt items stop is_whole kept place → ⊥
-unbroken [] stop place is_whole kept after whole p broken = false≢true (sym broken.0 ∙ whole)
-unbroken (item ∷ items) stop place is_whole kept after whole p (inl broken) = applies_or_not item.1 kept p.0 p.1 broken.0
-unbroken (item ∷ items) stop place is_whole kept after whole p (inr later) =
-    unbroken items stop place is_whole later.0 after whole (subst (λ (k : Kept). LeadTo items k after) (applies_once item.1 kept p.0 later.0 p.1 later.1) p.2) later.2
-
-pub undamaged : (s : Standing) (kept : Kept) (place : ℕ) → KeptOf s kept → IsDamagedAt s place → ⊥
-undamaged s kept place p (inl not) = not.0 p.empty_snapshot
-undamaged s kept place p (inr broken) = unbroken s.records s.stop place s.is_whole (kept_first s.tag s.ids) kept p.whole p.records broken.1
-
-no_changes_snapshot : IsSnapshot no_changes []
-unfolding u64_bytes
-no_changes_snapshot = record { spelled = refl; admitted = record { few = omega arith; each = tt } }
-
-pub fresh_kept : (tag : ℕ) → tag < 2 ^ 60 → KeptOf (fresh tag) (kept_as (empty_state tag))
-fresh_kept tag lt = record {
-  whole = refl;
-  empty_snapshot = record { tag_fits = lt; ids_fit = omega arith; nothing = no_changes_snapshot };
-  records = refl;
+-- a fresh store stands for the empty state of its tag
+pub fresh_stands : (two : List ℕ × List ℕ) (tag : ℕ) → tag < 2 ^ 60 → standing_of two ≡ Some (fresh tag) → Stands two (empty_state tag) 0
+fresh_stands two tag fits is = record {
+  kept = nothing_kept tag;
+  is = refl;
+  files = record { standing = fresh tag; current = is; keeps = fresh_kept tag fits; counted = fresh_counted tag };
 }
 
-pub lead_on : (items : List (ℕ × List ℕ)) (item : ℕ × List ℕ) (kept mid after : Kept) → LeadTo items kept mid → Applies item.1 mid after → LeadTo (items ++ item ∷ []) kept after
-lead_on [] item kept mid after p last = (after, subst (λ (k : Kept). Applies item.1 k after) (sym p) last, refl)
-lead_on (x ∷ items) item kept mid after p last = (p.0, p.1, lead_on items item p.0 mid after p.2 last)
-
-pub record_leads : (s : Standing) (before after : Kept) (steps : List (List Change)) → KeptOf s before → AreSteps steps → length (record_bytes steps) < 2 ^ 32
-    → after_secret_record steps before ≡ Some after → KeptOf (with_framed s (frame (record_bytes steps))) after
-record_leads s before after steps kept admitted short leads =
-    let bytes = record_bytes steps in
-    let last : Applies (record_in (1 ∷ frame bytes)) before after = record { steps = steps; read = record { spelled = frame_holds bytes short; admitted = admitted }; leads = leads } in
-    record { whole = kept.whole; empty_snapshot = kept.empty_snapshot; records = lead_on s.records (s.stop, record_in (1 ∷ frame bytes)) (kept_first s.tag s.ids) before after kept.records last }
-
-more_steps : (items : List (ℕ × List ℕ)) (item : ℕ × List ℕ) (n : ℕ) (steps : List (List Change)) → HaveSteps items n → IsRecord item.1 steps → HaveSteps (items ++ item ∷ []) (n + length steps)
-more_steps [] item n steps none is = (steps, 0, is, refl, omega (arith, none))
-more_steps (x ∷ items) item n steps p is = (p.0, p.1 + length steps, p.2, more_steps items item p.1 steps p.3 is, omega (arith, p.4))
-
-pub record_counts : (s : Standing) (n : ℕ) (steps : List (List Change)) → HasSteps s n → AreSteps steps → length (record_bytes steps) < 2 ^ 32
-    → HasSteps (with_framed s (frame (record_bytes steps))) (n + length steps)
-record_counts s n steps p admitted short =
-    let bytes = record_bytes steps in
-    (p.0 + length steps, more_steps s.records (s.stop, record_in (1 ∷ frame bytes)) p.0 steps p.1 (record { spelled = frame_holds bytes short; admitted = admitted }), omega (arith, p.2))
-
-pub broken_by : (bytes : List ℕ) (steps : List (List Change)) (kept : Kept) → IsRecord bytes steps → after_secret_record steps kept ≡ None → IsBroken bytes kept
-broken_by bytes steps kept is none other read = ap (λ (s : List (List Change)). after_secret_record s kept) (one_reading bytes other steps read is) ∙ none
+pub stands_opens : (was now : History) (state : State) (steps : ℕ) (result : Result Held StartFault) → Stands (files was) state steps → Starts result was now → OpensTo state result
+stands_opens was now state steps (Ok engine) stands s = (one_state (files was) engine.state state s.answer.0 steps s.answer.1 stands).0
+stands_opens was now state steps (Err start.NoStore) stands s = let no : None ≡ Some stands.files.standing = sym s.answer ∙ stands.files.current in cc
+stands_opens was now state steps (Err (start.Damaged place)) stands s = no_damage (files was) state steps s.answer.0 s.answer.1 stands s.answer.2 s.answer.4
+stands_opens was now state steps (Err start.StoreFault) stands s = tt
+stands_opens was now state steps (Err start.NoMemory) stands s = tt

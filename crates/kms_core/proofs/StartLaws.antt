@@ -5,7 +5,7 @@ use Rattle.kms_host.specs.History.{History}
 use Rattle.kms_host.specs.Disk.{Disk, MayLeave, at_rest}
 use Rattle.kms_host.specs.Moment.{Throughout}
 use Rattle.kms_host.proofs.Moments.{joined, throughout_weaker, at_last}
-use Rattle.kms_record.specs.Kept.{Kept}
+use Rattle.kms_kept.specs.Kept.{Kept}
 use Rattle.kms_journal.specs.Answers.{chain_of, Gathers}
 use Rattle.kms_journal.specs.Device.{IsQuiet, IsUntouched}
 use Rattle.kms_journal.specs.Position.{Position, IsPlaced}
@@ -17,14 +17,18 @@ use Rattle.kms_journal.specs.declared.fault.JournalFault.TheVariants as journal
 use Rattle.kms_journal.specs.declared.fault.Place.{Place}
 use Rattle.kms_journal.specs.declared.fault.Place.TheVariants.{Body}
 use Rattle.kms_journal.proofs.ReadingLaws.{same_reads, same_files, quiet_after, attached_after}
-use Rattle.kms_core.specs.Stands.{LeadTo, BreakAt, IsDamagedAt, kept_as}
-use Rattle.kms_core.proofs.KeysLaws.{only_state}
-use Rattle.kms_core.specs.Loading.{IsBrokenAt, IsFirstDamage, Loads, Refuses}
+use Rattle.kms_store.specs.Loading.{IsBrokenAt, LeadsChain, Loads}
+use Rattle.kms_store.specs.Staged.{Staging, StagingLeads, nothing_staged}
+use Rattle.kms_store.specs.Stands.{LeadTo, KeptOf, BreakAt, IsDamagedAt}
+use Rattle.kms_store.specs.Store.{Stored}
+use Rattle.kms_store.specs.declared.load_fault.LoadFault.{LoadFault}
+use Rattle.kms_store.specs.declared.load_fault.LoadFault.TheVariants as load
+use Rattle.kms_store.proofs.StagedLaws.{nothing_leads}
+use Rattle.kms_store.proofs.StandsLaws.{kept_counts}
+use Rattle.kms_core.specs.Refusing.{IsFirstDamage, Refuses, fault_of}
 use Rattle.kms_core.specs.Starting.{IsRefusal, OpensJournal, Starts}
 use Rattle.kms_core.specs.Steps.{Held}
 use Rattle.kms_core.specs.declared.start_fault.StartFault.{StartFault}
-use Rattle.kms_core.proofs.StandsLaws.{kept_counts}
-use Rattle.kms_core.specs.declared.start_fault.StartFault.TheVariants.{NoStore, Damaged, StoreFault, NoMemory}
 
 -- records that apply, and stop where they aren't whole
 stops_there : (items : List (ℕ × List ℕ)) (stop at : ℕ) (is_whole : Bool) (kept after : Kept) → is_whole ≡ false → at ≡ stop → LeadTo items kept after → BreakAt items stop is_whole kept at
@@ -33,11 +37,13 @@ stops_there (item ∷ items) stop at is_whole kept after broken is leads = inr (
 
 broken_store : (s : Standing) (at : ℕ) → IsBrokenAt (chain_of s) at → IsDamagedAt s at
 broken_store s at (inl not) = inl not
-broken_store s at (inr broken) = inr (broken.0, broken.1 s.stop s.is_whole)
+broken_store s at (inr broken) = inr (broken.0, broken.1, broken.2 s.stop s.is_whole)
 
 first_damage : (s : Standing) (at : ℕ) → s.is_whole ≡ false → IsFirstDamage (chain_of s) s.stop at → IsDamagedAt s at
 first_damage s at broken (inl before) = broken_store s at before
-first_damage s at broken (inr last) = inr (last.0, stops_there s.records s.stop at s.is_whole _ last.2.0 broken last.1 last.2.1)
+first_damage s at broken (inr last) =
+    let leads = last.1.1 in
+    inr (leads.first, leads.snapshot, stops_there s.records s.stop at s.is_whole leads.first last.1.0 broken last.0 leads.records)
 
 abbrev stop_of : Place → ℕ
 stop_of (Body file at) = at
@@ -105,31 +111,38 @@ module _ (p : Position) (was mid now : History) (o : OpensJournal (Ok p) was mid
       by_fault (journal.Damaged place chain) r g = absurd g.answer
 
   module _ (chain : Chain) (gathers : (s : Standing) → IsPlaced p mid s → Gathers s (Ok chain) mid now) where
-    pub unloaded : (e : StartFault) → Loads chain (Err e) → Starts (Err e) was now
-    unloaded e l = let g = gathers o.answer.0 o.answer.2 in record { throughout = during g.throughout; answer = by_fault e l g }
+    pub unloaded : (fault : LoadFault) → Loads {T = Stored} (λ store. store.kept) chain (Err fault) → Starts (Err (fault_of chain fault)) was now
+    unloaded fault l = let g = gathers o.answer.0 o.answer.2 in record { throughout = during g.throughout; answer = by_fault fault l g }
       where
-        by_fault : (e : StartFault) → Loads chain (Err e) → Gathers o.answer.0 (Ok chain) mid now → IsRefusal e was
-        by_fault NoStore l g = absurd l
-        by_fault StoreFault l g = absurd l
-        by_fault NoMemory l g = tt
-        by_fault (Damaged place) l g =
+        by_fault : (fault : LoadFault) → Loads {T = Stored} (λ store. store.kept) chain (Err fault) → Gathers o.answer.0 (Ok chain) mid now → IsRefusal (fault_of chain fault) was
+        by_fault load.NoMemory l g = tt
+        by_fault (load.Damaged at) l g =
             let s = o.answer.0 in
-            (s, l.0, o.answer.1, l.1 ∙ ap (λ (c : Chain). Body c.file l.0) g.answer, broken_store s l.0 (subst (λ (c : Chain). IsBrokenAt c l.0) g.answer l.2))
+            (s, at, o.answer.1, ap (λ (c : Chain). Body c.file at) g.answer, broken_store s at (subst (λ (c : Chain). IsBrokenAt c at) g.answer l))
 
-    pub started_at : (kept : Kept) (engine : Held) → Loads chain (Ok kept) → engine ≡ record { state = kept.state; room = false; store = record { journal = record p { chain = None }; waiting = None } } → Starts (Ok engine) was now
-    started_at kept engine l is =
+    pub started_at : (store : Stored) (engine : Held) → LeadsChain chain store.kept → store.staging ≡ nothing_staged
+        → engine ≡ record { state = store.kept.state; store = record { journal = record p { chain = None }; stored = store } } → Starts (Ok engine) was now
+    started_at store engine l none is =
         let s = o.answer.0 in
         let g = gathers s o.answer.2 in
-        let loads : Loads (chain_of s) (Ok kept) = subst (λ (c : Chain). Loads c (Ok kept)) g.answer l in
-        let keeps = only_state s kept (record { whole = o.answer.2.whole; empty_snapshot = loads.0; records = loads.1 }) in
-        let steps = kept_counts s (kept_as kept.state) keeps in
+        let loads : LeadsChain (chain_of s) store.kept = subst (λ (c : Chain). LeadsChain c store.kept) g.answer l in
+        let keeps : KeptOf s store.kept = record { whole = o.answer.2.whole; first = loads.first; snapshot = loads.snapshot; records = loads.records } in
+        let steps = kept_counts s store.kept keeps in
         let now_placed = placed_after p s mid now g.throughout o.answer.2 in
         subst (λ (x : Held). Starts (Ok x) was now) (sym is) (record {
           throughout = during g.throughout;
           answer = (
             steps.0,
-            record { standing = s; current = o.answer.1; kept = keeps; counted = steps.1 },
-            record { idle = refl; opened = record { standing = s; placed = now_placed; kept = keeps; counted = steps.1; ahead = refl } },
+            record { kept = store.kept; is = refl; files = record { standing = s; current = o.answer.1; keeps = keeps; counted = steps.1 } },
+            record {
+              idle = record { count = ap (λ (st : Staging). st.count) none; steps = ap (λ (st : Staging). st.steps) none };
+              opened = record {
+                kept = store.kept;
+                settled = refl;
+                opened = record { standing = s; placed = now_placed; keeps = keeps; counted = steps.1; leads = subst (λ (st : Staging). StagingLeads st store.kept store.kept) (sym none) (nothing_leads store.kept) };
+                now = refl;
+              };
+            },
             λ quiet. quiet_after mid now (at_last (IsUntouched mid) mid now g.throughout) (o.answer.3 quiet),
             subst (λ (f : ℕ). IsQuiet f now) (sym (ap (λ (x : Position). x.file) o.answer.2.here)) (rests_after s.file mid now (at_last (IsUntouched mid) mid now g.throughout) o.answer.4),
           );

@@ -1,23 +1,36 @@
 -- What settling does to a store, at each moment.
-use Rattle.std.specs.Prelude.{◌≡◌, ◌⊎◌, ℕ, ◌+◌, ◌≤◌, List, Result, OnOk}
+use Rattle.std.specs.Prelude.{◌≡◌, ◌⊎◌, ℕ, ◌+◌, ◌≤◌, List, Result, OnOk, true, None}
 use Rattle.kms_world.specs.State.{State}
 use Rattle.kms_host.specs.Disk.{IsImage}
 use Rattle.kms_host.specs.History.{History}
 use Rattle.kms_host.specs.Moment.{Throughout}
 use Rattle.kms_host.specs.Store.{others, syncs}
 use Rattle.kms_journal.specs.Device.{IsQuietStore}
-use Rattle.kms_journal.specs.Position.{IsPlaced}
-use Rattle.kms_journal.specs.Standing.{Standing}
-use Rattle.kms_core.specs.Stands.{KeptOf, HasSteps, Stands, kept_as}
-use Rattle.kms_core.specs.Waiting.{Keeping, WaitingLead}
+use Rattle.kms_journal.specs.Position.{Position}
+use Rattle.kms_kept.specs.Kept.{Kept}
+use Rattle.kms_store.specs.Settling.{IsOpened as IsStoreOpened}
+use Rattle.kms_store.specs.Store.{Stored}
+use Rattle.kms_core.specs.Stands.{Stands}
+
+-- what contracts see of an opened store: where its journal stands, what is kept, and the steps that wait to be settled
+pub record Keeping : Type 0 where
+  pub journal : Position
+  pub stored : Stored
+
+-- how many steps wait
+abbrev pub count_of : Keeping → ℕ
+count_of k = k.stored.staging.count
+
+-- with a journal that has failed
+abbrev pub with_failed : Keeping → Keeping
+with_failed k = record { journal = record k.journal { failed = true; chain = None }; stored = k.stored }
 
 -- The store stands for the state that was settled, after so many steps, and the steps that wait lead from it to this one.
-pub record IsOpened (store : Keeping) (h : History) (settled : State) (steps : ℕ) (state : State) : Type 0 where
-  pub standing : Standing
-  pub placed : IsPlaced store.journal h standing
-  pub kept : KeptOf standing (kept_as settled)
-  pub counted : HasSteps standing steps
-  pub ahead : WaitingLead store.waiting settled state
+pub record IsOpened (k : Keeping) (h : History) (before : State) (steps : ℕ) (state : State) : Type 0 where
+  pub kept : Kept
+  pub settled : kept.state ≡ before
+  pub opened : IsStoreOpened k.stored.kept k.stored.staging k.journal h kept steps
+  pub now : k.stored.kept.state ≡ state
 
 -- Each crash image stands for the state that was settled, or for the one with all steps that wait, which are so many.
 -- Nothing was called but on files.

@@ -1,82 +1,12 @@
 -- What the files of a store stand for: a state of the key manager.
-use Rattle.std.specs.Prelude.{◌≡◌, ◌⊎◌, ℕ, ◌+◌, ◌<◌, ◌≤◌, ◌^◌, List, [], ◌∷◌, length, slice_index, Bool, true, false, Some, None}
-use Rattle.kms_world.specs.State.{State, empty_state}
-use Rattle.kms_record.specs.declared.change.Change.{Change}
-use Rattle.kms_record.specs.Grammar.{IsRecord, IsSnapshot}
-use Rattle.kms_record.specs.Kept.{Kept}
-use Rattle.kms_record.specs.SecretsOnly.{after_secret_record}
-use Rattle.kms_journal.specs.Standing.{Standing, standing_of}
+use Rattle.std.specs.Prelude.{◌≡◌, ℕ, List}
+use Rattle.kms_world.specs.State.{State}
+use Rattle.kms_kept.specs.Kept.{Kept}
+use Rattle.kms_store.specs.Stands.{StandFor}
 
--- what is kept of a state without payloads: there are no keys
-abbrev pub kept_as : State → Kept
-kept_as state = record { state = state; keys = [] }
-
--- The bytes are a record whose steps apply, and this is kept after them. Changes other than those that put secrets aren't
--- taken yet: a record that has one doesn't apply.
-pub record Applies (bytes : List ℕ) (kept after : Kept) : Type 0 where
-  pub steps : List (List Change)
-  pub read : IsRecord bytes steps
-  pub leads : after_secret_record steps kept ≡ Some after
-
--- each record applies, one after the other, and this is kept after the last
-abbrev pub LeadTo : List (ℕ × List ℕ) → Kept → Kept → Type 0
-LeadTo [] kept after = kept ≡ after
-LeadTo (item ∷ items) kept after = (next : Kept) × Applies item.1 kept next × LeadTo items next after
-
--- nothing is kept, under a tag and where so many ids were given
-abbrev pub kept_first : ℕ → ℕ → Kept
-kept_first tag ids = record { state = record (empty_state tag) { ids = ids }; keys = [] }
-
--- The tag and the number of ids are in range, and the snapshot is the one with no changes.
-pub record IsEmptySnapshot (tag ids : ℕ) (snapshot : List ℕ) : Type 0 where
-  pub tag_fits : tag < 2 ^ 60
-  pub ids_fit : ids ≤ 2 ^ 62
-  pub nothing : IsSnapshot snapshot []
-
--- What a store's standing keeps: what its records lead to, from the snapshot on.
-pub record KeptOf (s : Standing) (kept : Kept) : Type 0 where
-  pub whole : s.is_whole ≡ true
-  pub empty_snapshot : IsEmptySnapshot s.tag s.ids s.snapshot
-  pub records : LeadTo s.records (kept_first s.tag s.ids) kept
-
--- the records have so many steps
-abbrev pub HaveSteps : List (ℕ × List ℕ) → ℕ → Type 0
-HaveSteps [] n = n ≡ 0
-HaveSteps (item ∷ items) n = (steps : List (List Change)) × (rest : ℕ) × IsRecord item.1 steps × HaveSteps items rest × (n ≡ length steps + rest)
-
--- how many steps a store stands for: those of its snapshot, and those in its records
-abbrev pub HasSteps : Standing → ℕ → Type 0
-HasSteps s n = (m : ℕ) × HaveSteps s.records m × (n ≡ s.steps + m)
-
--- The two files of a store stand for this state, after so many steps.
-pub record Stands (files : List ℕ × List ℕ) (state : State) (steps : ℕ) : Type 0 where
-  pub standing : Standing
-  pub current : standing_of files ≡ Some standing
-  pub kept : KeptOf standing (kept_as state)
-  pub counted : HasSteps standing steps
-
--- no reading of the bytes applies
-abbrev pub IsBroken : List ℕ → Kept → Type 0
-IsBroken bytes kept = (steps : List (List Change)) → IsRecord bytes steps → after_secret_record steps kept ≡ None
-
--- The first record that doesn't apply has its commit mark at this place. If all apply, it is where the records stop
--- although they aren't whole.
-abbrev pub BreakAt : List (ℕ × List ℕ) → ℕ → Bool → Kept → ℕ → Type 0
-BreakAt [] stop is_whole kept place = (is_whole ≡ false) × (place ≡ stop)
-BreakAt (item ∷ items) stop is_whole kept place =
-    (IsBroken item.1 kept × (place ≡ item.0))
-    ⊎ ((next : Kept) × Applies item.1 kept next × BreakAt items stop is_whole next place)
-
--- each of these is a byte
-abbrev pub IsBytes : List ℕ → Type 0
-IsBytes bytes = (i : ℕ) → slice_index bytes i < 256
-
--- the first place, in a store's current file, at which what it keeps is damaged: 0 for the header and the snapshot
-abbrev pub IsDamagedAt : Standing → ℕ → Type 0
-IsDamagedAt s place =
-    (¬ IsEmptySnapshot s.tag s.ids s.snapshot × (place ≡ 0))
-    ⊎ (IsEmptySnapshot s.tag s.ids s.snapshot × BreakAt s.records s.stop s.is_whole (kept_first s.tag s.ids) place)
-
--- What a store's standing keeps, or the first place at which it is damaged: it has one or the other.
-abbrev pub IsWholeOrDamaged : Standing → Type 0
-IsWholeOrDamaged s = ((kept : Kept) × KeptOf s kept) ⊎ ((place : ℕ) × IsDamagedAt s place)
+-- The two files of a store stand for this state, after so many steps. Payloads aren't served yet: the bytes of one that is
+-- kept are, in the state, what is kept of it.
+pub record Stands (two : List ℕ × List ℕ) (state : State) (steps : ℕ) : Type 0 where
+  pub kept : Kept
+  pub is : kept.state ≡ state
+  pub files : StandFor two kept steps

@@ -9,7 +9,8 @@ use Rattle.kms_journal.specs.Recovery.{KeepsStanding}
 use Rattle.kms_journal.specs.Standing.{Standing, standing_of}
 use Rattle.kms_journal.specs.declared.fault.Place.TheVariants.{Body}
 use Rattle.kms_world.specs.State.{State}
-use Rattle.kms_core.specs.Stands.{Stands, IsDamagedAt}
+use Rattle.kms_store.specs.Stands.{IsDamagedAt}
+use Rattle.kms_core.specs.Stands.{Stands}
 use Rattle.kms_core.specs.Steps.{Held, IsSettled}
 use Rattle.kms_core.specs.declared.start_fault.StartFault.{StartFault}
 use Rattle.kms_core.specs.declared.start_fault.StartFault.TheVariants.{NoStore, Damaged, StoreFault, NoMemory}

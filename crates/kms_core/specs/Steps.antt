@@ -1,49 +1,56 @@
 -- Steps, and what preparing one promises.
-use Rattle.std.specs.Prelude.{◌≡◌, ℕ, ◌<◌, ◌+◌, ◌^◌, Option, Some, None, Bool, false, IsTrue}
+use Rattle.std.specs.Prelude.{◌≡◌, ℕ, ◌+◌, ◌<◌, ◌^◌, [], length, Option, Some, None, false}
 use Rattle.kms_world.specs.State.{State}
-use Rattle.kms_world.specs.Times.{IsTimely}
-use Rattle.kms_world.specs.Effect.{SecretPut, after_effect}
-use Rattle.kms_model.specs.Secrets.{next_id}
 use Rattle.kms_host.specs.History.{History}
-use Rattle.kms_core.specs.Settling.{IsOpened}
-use Rattle.kms_core.specs.Waiting.{Keeping, WaitingLead, count_of}
-use Rattle.kms_core.specs.declared.step.Step.{Step}
+use Rattle.kms_record.specs.Grammar.{step_bytes}
+use Rattle.kms_kept.specs.Kept.{Kept, after_step}
+use Rattle.kms_store.specs.Staged.{StagingLeads}
+use Rattle.kms_store.specs.Store.{IsReserved}
+use Rattle.kms_store.specs.ReadyStep.{TaggedStep}
+use Rattle.kms_core.specs.Settling.{Keeping, IsOpened, count_of}
 
--- what contracts see of an engine: its state, whether there is room for a step, and its store
+-- what contracts see of an engine: its state, and its store
 pub record Held : Type 0 where
   pub state : State
-  pub room : Bool
   pub store : Keeping
 
-abbrev pub after_step : State → Step → State
-after_step s step = after_effect (SecretPut step.secret) s
+-- Taking the step over can't fail, and leads from the engine's state to this one.
+pub record LeadsTo (step : TaggedStep) (engine : Held) (after : State) : Type 0 where
+  pub reserved : IsReserved engine.store.stored step
+  pub short : length (step_bytes step.changes) < 2 ^ 16
+  pub kept : Kept
+  pub leads : after_step step.changes engine.store.stored.kept ≡ Some kept
+  pub is : kept.state ≡ after
 
--- the step leads from this state to the next one, and taking it over can't fail
-pub record LeadsTo (step : Step) (before after : State) (has_room : Bool) : Type 0 where
-  pub leads : after_step before step ≡ after
-  pub room : IsTrue has_room
-  pub ids : before.ids < 2 ^ 62
-  pub id : step.secret.id ≡ next_id before
-  pub times : IsTimely step.secret
+abbrev pub Prepares : Option TaggedStep → Held → State → Type 0
+Prepares None engine after = after ≡ engine.state
+Prepares (Some step) engine after = LeadsTo step engine after
 
-abbrev pub Prepares : Option Step → State → State → Bool → Type 0
-Prepares None before after room = after ≡ before
-Prepares (Some step) before after room = LeadsTo step before after room
+-- The journal, what is kept and the staged steps are as before.
+pub record KeepsTheSame (old new : Keeping) : Type 0 where
+  pub journal : new.journal ≡ old.journal
+  pub kept : new.stored.kept ≡ old.stored.kept
+  pub count : count_of new ≡ count_of old
+  pub steps : new.stored.staging.steps ≡ old.stored.staging.steps
 
--- The step is spelled after the steps that wait: they are one more, and together they lead on.
-abbrev pub IsSpelledAfter : Held → Step → Type 0
-IsSpelledAfter engine step = (step.waiting.count ≡ count_of engine.store.waiting + 1)
-    × ((settled : State) → WaitingLead engine.store.waiting settled engine.state → WaitingLead (Some step.waiting) settled (after_step engine.state step))
+-- So many more steps are staged, and they lead from one engine's state to the other's.
+pub record Waits (before after : Held) (steps : ℕ) : Type 0 where
+  pub journal : after.store.journal ≡ before.store.journal
+  pub count : count_of after.store ≡ count_of before.store + steps
+  pub leads : (settled : Kept) → StagingLeads before.store.stored.staging settled before.store.stored.kept
+      → StagingLeads after.store.stored.staging settled after.store.stored.kept
+  pub now : before.store.stored.kept.state ≡ before.state → after.store.stored.kept.state ≡ after.state
 
--- no step waits
-abbrev pub IsIdle : Held → Type 0
-IsIdle engine = engine.store.waiting ≡ None
+-- no step is staged
+pub record IsIdle (engine : Held) : Type 0 where
+  pub count : count_of engine.store ≡ 0
+  pub steps : engine.store.stored.staging.steps ≡ []
 
 -- no call of the store has failed in one of the engine's calls
 abbrev pub IsWorking : Held → Type 0
 IsWorking engine = engine.store.journal.failed ≡ false
 
--- The engine's store stands for its state after so many steps, and no step waits.
+-- The engine's store stands for its state after so many steps, and no step is staged.
 pub record IsSettled (engine : Held) (steps : ℕ) (h : History) : Type 0 where
   pub idle : IsIdle engine
   pub opened : IsOpened engine.store h engine.state steps engine.state

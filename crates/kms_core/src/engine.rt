@@ -1,38 +1,33 @@
 // The engine and its calls.
-ghost use Rattle.std.specs.Prelude.{◌≡◌, ℕ, ◌<◌, ◌^◌, IfOk, Some, Ok, is_some, is_err, IfSome, OnOk, OnErr, IsTrue};
+ghost use Rattle.std.specs.Prelude.{◌≡◌, ℕ, ◌<◌, ◌^◌, IfOk, Some, Ok, is_some, is_err, OnOk, OnErr};
 ghost use Rattle.kms_world.specs.State.{State};
-ghost use Rattle.kms_world.specs.Times.{HasTimes, IsTimely};
+ghost use Rattle.kms_world.specs.Times.{HasTimes};
 ghost use Rattle.kms_model.specs.Ask.{answer_to, state_after, stores};
-ghost use Rattle.kms_model.specs.Secrets.{next_id};
 ghost use Rattle.kms_host.specs.Faults.{HasCause};
 ghost use Rattle.kms_host.specs.History.{Tells, WhereTold, Stops};
 ghost use Rattle.kms_host.specs.declared.call.Count.TheVariants as counts;
 ghost use Rattle.kms_journal.specs.Fault.{Fails};
 ghost use Rattle.kms_journal.specs.Position.{IsPlaced};
 ghost use Rattle.kms_journal.specs.Standing.{Standing};
-ghost use Rattle.kms_core.specs.Steps.{after_step, Prepares, IsIdle, IsWorking, IsSpelledAfter};
-ghost use Rattle.kms_core.specs.Settling.{IsOpened, Settles};
-ghost use Rattle.kms_core.specs.Waiting.{count_of, with_waiting, with_failed};
+ghost use Rattle.kms_core.specs.Settling.{IsOpened, Settles, count_of, with_failed};
+ghost use Rattle.kms_core.specs.Steps.{LeadsTo, Prepares, KeepsTheSame, Waits, IsIdle, IsWorking};
 
-use crate::opened::Opened;
-use crate::step::refused;
-use crate::{AskFault, Asked, Step};
+use crate::asked::refused;
+use crate::{AskFault, Asked};
 use kms_host::Host;
-use kms_journal::StoreFault;
-use kms_world::{Caller, Op, Refusal, SecretRow};
+use kms_journal::{Journal, StoreFault};
+use kms_store::{ReadyStep, Store};
+use kms_world::{Caller, Op, Refusal};
 use std::alloc::Global;
 use std::marker::Model;
 
-/// The key manager's state in memory, over a store. Contracts see the state, whether there is room for a step, and of the
-/// store where its journal stands and the steps that wait to be settled.
+/// The key manager's state in memory, over a store. Contracts see the state, and of the store where its journal stands,
+/// what is kept, and the steps that wait to be settled.
 #[derive(Drop)]
 pub struct Engine {
     pub(crate) alloc: Global,
-    pub(crate) tag: u64,
-    pub(crate) ids: u64,
-    pub(crate) secrets: Vec<SecretRow>,
-    pub(crate) room: bool,
-    pub(crate) store: Opened,
+    pub(crate) store: Store,
+    pub(crate) journal: Journal,
 }
 
 impl Model for Engine {
@@ -40,11 +35,11 @@ impl Model for Engine {
 
     ghost Value = { Held };
 
-    ghost use Rattle.kms_core.specs.Engine.{held, IsSound};
+    ghost use Rattle.kms_core.specs.Engine.{held, AreShort};
 
     ghost view = { held };
 
-    ghost invariant = { IsSound };
+    ghost invariant = { AreShort };
 }
 
 impl Engine {
@@ -59,14 +54,13 @@ impl Engine {
         moment: u64,
     ) -> Result<Asked, AskFault>
         requires time { moment < 253402300800 }
-        requires few { count_of self.old.store.waiting < 1152 }
+        requires few { count_of self.old.store < 1152 }
         ensures answer { IfOk result (λ a. a.answer ≡ answer_to self.old.state caller.now op moment) }
-        ensures step { IfOk result (λ a. Prepares a.step self.old.state (state_after self.old.state caller.now op moment) self.new.room) }
+        ensures step { IfOk result (λ a. Prepares a.step self.new (state_after self.old.state caller.now op moment)) }
         ensures stores { IfOk result (λ a. is_some a.step ≡ stores self.old.state caller.now op moment) }
         ensures times { IfOk result (λ a. HasTimes a.answer) }
-        ensures spelled { IfOk result (λ a. IfSome a.step (IsSpelledAfter self.old)) }
         ensures same { self.new.state ≡ self.old.state }
-        ensures store { self.new.store ≡ self.old.store }
+        ensures store { KeepsTheSame self.old.store self.new.store }
         ensures host { host.new ≡ host.old }
     {
         match op {
@@ -80,20 +74,12 @@ impl Engine {
     }
 
     /// Takes over the step that the last call of `ask` prepared. It can't fail. The step waits to be settled.
-    pub fn accept(&mut self, step: Step)
-        requires room { IsTrue self.old.room }
-        requires ids { self.old.state.ids < 2 ^ 62 }
-        requires id { step.secret.id ≡ next_id self.old.state }
-        requires times { IsTimely step.secret }
-        ensures state { self.new.state ≡ after_step self.old.state step }
-        ensures store { self.new.store ≡ with_waiting (Some step.waiting) self.old.store }
+    pub fn accept(&mut self, step: ReadyStep)
+        requires { (after : State) × LeadsTo step self.old after }
+        ensures state { (after : State) → LeadsTo step self.old after → self.new.state ≡ after }
+        ensures waits { Waits self.old self.new 1 }
     {
-        let Step { secret, waiting } = step;
-        self.ids += 1;
-        self.room = false;
-        self.store.wait(waiting);
-        let pushed = self.secrets.push(secret);
-        pushed.unwrap();
+        self.store.stage(step);
     }
 
     /// Writes the accepted steps that wait to the store, as one record, with at most two syncs. It takes no memory. With
@@ -101,19 +87,19 @@ impl Engine {
     /// all of them or none, if nothing was pending on the files before. The engine settles no more then: start another.
     pub fn settle<H: Host>(&mut self, host: &mut H) -> Result<(), StoreFault>
         requires working { IsWorking self.old }
-        requires placed { IsTrue (is_some self.old.store.waiting) → WhereTold (H.history host.old) (λ h. (s : Standing) × IsPlaced self.old.store.journal h s) }
+        requires placed { 0 < count_of self.old.store → WhereTold (H.history host.old) (λ h. (s : Standing) × IsPlaced self.old.store.journal h s) }
         ensures told { Tells (H.history host.old) (H.history host.new) (λ was now. (settled : State) (steps : ℕ)
             → IsOpened self.old.store was settled steps self.old.state
-            → Settles self.new.store result settled steps self.old.state (count_of self.old.store.waiting) was now) }
+            → Settles self.new.store result settled steps self.old.state (count_of self.old.store) was now) }
         ensures same { self.new.state ≡ self.old.state }
         ensures ok { OnOk result (IsIdle self.new) }
         ensures working { OnOk result (IsWorking self.new) }
         ensures fails { OnErr result (self.new ≡ record self.old { store = with_failed self.old.store }) }
-        ensures idle { IsIdle self.old → (result ≡ Ok tt) × (host.new ≡ host.old) }
+        ensures idle { count_of self.old.store ≡ 0 → (result ≡ Ok tt) × (host.new ≡ host.old) }
         ensures cause { HasCause counts.Store (H.faults host.old) (H.faults host.new) result }
         ensures failed { Tells (H.history host.old) (H.history host.new) (Fails (is_err result)) }
         ensures stops { Stops (H.wanted host.old) (H.wanted host.new) (H.history host.old) (H.history host.new) }
     {
-        self.store.settle(host)
+        self.store.settle(host, &mut self.journal)
     }
 }

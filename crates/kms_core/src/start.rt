@@ -1,20 +1,55 @@
 // An engine over a store.
-ghost use Rattle.std.specs.Prelude.{◌≡◌, IfOk, None, false};
+ghost use Rattle.std.specs.Prelude.{◌≡◌, IfOk, false};
 ghost use Rattle.kms_host.specs.History.{Tells, WhereTold, Stops};
 ghost use Rattle.kms_host.specs.Store.{IsAttached};
 ghost use Rattle.kms_journal.specs.Device.{HasStoreCause};
 ghost use Rattle.kms_journal.specs.Fault.{Fails};
+ghost use Rattle.kms_core.specs.Refusing.{Refuses, fault_of};
 ghost use Rattle.kms_core.specs.Starting.{Starts, OpensJournal, is_failed_start};
 ghost use Rattle.kms_core.specs.Steps.{IsIdle, IsWorking};
 ghost use Rattle.kms_core.specs.declared.start_fault.StartFault.TheVariants as faults;
 
-use crate::load::{load, refusal};
-use crate::opened::Opened;
-use crate::rows::Rows;
 use crate::{Engine, StartFault};
 use kms_host::Host;
-use kms_journal::{Journal, recover};
+use kms_journal::{Chain, Journal, JournalFault, Place, recover};
+use kms_store::{LoadFault, Store, load};
 use std::alloc::Global;
+
+// What a fault of loading this chain means for the engine.
+fn fault_of(chain: &Chain, fault: LoadFault) -> StartFault
+    ensures { result ≡ fault_of chain.now fault }
+{
+    match fault {
+        LoadFault::Damaged(at) => StartFault::Damaged(Place::Body {
+            file: chain.file,
+            at,
+        }),
+        LoadFault::NoMemory => StartFault::NoMemory,
+    }
+}
+
+// The first damage of a chain that stops at this place and isn't whole: a record before it may be broken already.
+fn first_damage(alloc: Global, chain: &Chain, place: Place) -> StartFault
+    ensures { Refuses (JournalFault.Damaged place chain.now) result }
+{
+    let Place::Body { at, .. } = place;
+    match load(alloc, chain) {
+        Ok(_) => fault_of(chain, LoadFault::Damaged(at)),
+        Err(fault) => fault_of(chain, fault),
+    }
+}
+
+// What the journal's fault means for the engine.
+fn refusal(alloc: Global, fault: JournalFault) -> StartFault
+    ensures { Refuses fault result }
+{
+    match fault {
+        JournalFault::NoStore => StartFault::NoStore,
+        JournalFault::StoreFault => StartFault::StoreFault,
+        JournalFault::NoMemory => StartFault::NoMemory,
+        JournalFault::Damaged(place, chain) => first_damage(alloc, &chain, place),
+    }
+}
 
 fn open<H: Host>(alloc: Global, host: &mut H) -> Result<Journal, StartFault>
     requires { WhereTold (H.history host.old) IsAttached }
@@ -31,24 +66,6 @@ fn open<H: Host>(alloc: Global, host: &mut H) -> Result<Journal, StartFault>
 }
 
 impl Engine {
-    // An engine of these rows, over this journal.
-    fn of(alloc: Global, rows: Rows, journal: Journal) -> Engine
-        ensures { result ≡ record { state = rows.state; room = false; store = record { journal = journal; waiting = None } } }
-    {
-        let Rows { tag, ids, secrets } = rows;
-        Engine {
-            alloc,
-            tag,
-            ids,
-            secrets,
-            room: false,
-            store: Opened {
-                journal,
-                waiting: None,
-            },
-        }
-    }
-
     /// Opens the attached store, and reads its records in their order: the engine has the state for which they stand.
     ///
     /// Answers NoStore exactly where there is none, and Damaged with the first place at which the store is damaged, where
@@ -68,7 +85,13 @@ impl Engine {
             Ok(chain) => chain,
             Err(fault) => return Err(refusal(alloc, fault)),
         };
-        let rows = load(alloc, &chain)?;
-        Ok(Engine::of(alloc, rows, journal))
+        match Store::load(alloc, &chain) {
+            Ok(store) => Ok(Engine {
+                alloc,
+                store,
+                journal,
+            }),
+            Err(fault) => Err(fault_of(&chain, fault)),
+        }
     }
 }

@@ -1,11 +1,12 @@
 // What no clause says: that the calls succeed over a host in memory, what each stop leaves, started again, and the bytes of
 // a store with one secret.
-ghost use Rattle.std.specs.Prelude.{IfOk, ◌<◌};
+ghost use Rattle.std.specs.Prelude.{◌≡◌, IfOk};
+ghost use Rattle.kms_world.specs.State.{State};
 ghost use Rattle.kms_host.specs.History.{WhereTold};
 ghost use Rattle.kms_host.specs.Store.{IsAttached};
 ghost use Rattle.kms_journal.specs.Position.{IsPlaced};
 ghost use Rattle.kms_journal.specs.Standing.{Standing};
-ghost use Rattle.kms_core.specs.Steps.{IsIdle, IsWorking};
+ghost use Rattle.kms_core.specs.Steps.{Prepares, IsIdle, IsWorking};
 
 mod bytes;
 
@@ -13,6 +14,7 @@ use crate::tests::bytes::{FRESH, FRESH_CHANGES, SETTLED, SETTLED_CHANGES, TWICE_
 use crate::{Asked, Engine, StartFault};
 use kms_host::{Bytes, Host, MemoryHost, NoMemory, Pick};
 use kms_journal::{CreateFault, Place, StoreFault, create};
+use kms_store::ReadyStep;
 use kms_world::{Answer, Caller, Id, Link, Name, Op, Roles, SecretBody, SecretRow, Text};
 use std::alloc::{AllocError, Global};
 use std::rt::HostRuntime;
@@ -71,7 +73,7 @@ fn finds<H: Host>(alloc: Global, host: &mut H) -> Found
     requires { WhereTold (H.history host.old) IsAttached }
 {
     match Engine::start(alloc, host) {
-        Ok(engine) => Found::Secrets(engine.secrets.len()),
+        Ok(engine) => Found::Secrets(engine.store.rows().secrets().len()),
         Err(StartFault::NoStore) => Found::Nothing,
         Err(StartFault::Damaged(Place::Body { file, at })) => Found::Damaged(file, at),
         Err(_) => Found::Fault,
@@ -135,6 +137,16 @@ fn starts<H: Host>(alloc: Global, host: &mut H) -> Result<Engine, StartFault>
     Engine::start(alloc, host)
 }
 
+// Takes over the step, where there is one.
+fn takes_over(engine: &mut Engine, step: Option<ReadyStep>)
+    requires { (after : State) × Prepares step engine.old after }
+    ensures { engine.new.store.journal ≡ engine.old.store.journal }
+{
+    if let Some(step) = step {
+        engine.accept(step);
+    }
+}
+
 // The answer to an operation, whose step is accepted.
 fn answers<H: Host>(engine: &mut Engine, host: &mut H, op: Op) -> Option<Answer>
     requires idle { IsIdle engine.old }
@@ -146,9 +158,7 @@ fn answers<H: Host>(engine: &mut Engine, host: &mut H, op: Op) -> Option<Answer>
     let caller = caller()?;
     match engine.ask(host, &caller, op, MOMENT) {
         Ok(Asked { answer, step }) => {
-            if let Some(step) = step {
-                engine.accept(step);
-            }
+            takes_over(engine, step);
             Some(answer)
         }
         Err(_) => None,

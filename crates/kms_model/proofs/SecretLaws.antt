@@ -6,6 +6,7 @@ use Rattle.std.proofs.lemmas.Bool.{and_parts, ltb-true, leb-true, eqb-true}
 use Rattle.std.proofs.lemmas.Slice.Eq.{bytes_eq-Decides}
 use Rattle.kms_world.specs.Effect.{after_effects, ids_with}
 use Rattle.kms_world.specs.Id.{is_id}
+use Rattle.kms_world.specs.LookUp.{secret_of}
 use Rattle.kms_world.specs.State.{State}
 use Rattle.kms_world.specs.declared.body.SecretBody.{SecretBody}
 use Rattle.kms_world.specs.declared.caller.Caller.{Caller}
@@ -14,7 +15,7 @@ use Rattle.kms_world.specs.declared.refusal.Field.{Field}
 use Rattle.kms_world.specs.declared.refusal.Refusal.{Refusal}
 use Rattle.kms_world.specs.declared.secret.SecretRow.{SecretRow}
 use Rattle.kms_model.specs.Done.{Done, ◌>>=◌, only_if}
-use Rattle.kms_model.specs.Secrets.{has_id, is_live, is_secret, is_short_name, new_secret, next_id, no_field, other_field, posted, secret_at}
+use Rattle.kms_model.specs.Secrets.{has_id, if_passes, is_live, is_short_name, is_shown, new_secret, next_id, no_field, other_field, posted, secret_at}
 
 some_same : {X : Type 0} (x y : X) → Some x ≡ Some y → x ≡ y
 some_same x y is = cc
@@ -33,15 +34,28 @@ pub record IsOwnSecret (caller : Caller) (id : Id) (t : ℕ) (row : SecretRow) :
   pub project : row.project ≡ caller.project
   pub live : is_live t row.expiration ≡ true
 
+-- what is found passed its test
+record IsThere {X : Type 0} (test : X → Bool) (there : Option X) (x : X) : Type 0 where
+  found : there ≡ Some x
+  passed : test x ≡ true
+
+kept_here : {X : Type 0} (test : X → Bool) (b : Bool) (x y : X) → test x ≡ b → cond b (Some x) None ≡ Some y → IsThere test (Some x) y
+kept_here test true x y is e = record { found = e; passed = subst (λ z. test z ≡ true) (some_same x y e) is }
+kept_here test false x y is e = absurd cc
+
+there_passed : {X : Type 0} (test : X → Bool) (found : Option X) (x : X) → if_passes test found ≡ Some x → IsThere test found x
+there_passed test None x is = absurd cc
+there_passed test (Some y) x is = kept_here test (test y) y x refl is
+
 pub shown_is_own : (s : State) (caller : Caller) (id : Id) (t : ℕ) (row : SecretRow) → secret_at s caller (Some id) t ≡ Some row → IsOwnSecret caller id t row
 shown_is_own s caller id t row is =
-    let passed = found_passes (is_secret caller id t) s.secrets row is in
-    let outer = and_parts (is_id id row.id && bytes_eq row.project caller.project) (is_live t row.expiration) passed in
-    let inner = and_parts (is_id id row.id) (bytes_eq row.project caller.project) outer.0 in
+    let there = there_passed (is_shown caller t) (secret_of id s.secrets) row is in
+    let named = found_passes (λ (r : SecretRow). is_id id r.id) s.secrets row there.found in
+    let both = and_parts (bytes_eq row.project caller.project) (is_live t row.expiration) there.passed in
     record {
-      named = ap (λ (n : ℕ). let i : Id = record { 0 = n } in i) (eqb-true row.id.0 id.0 inner.0);
-      project = (bytes_eq-Decides row.project caller.project).0 inner.1;
-      live = outer.1;
+      named = ap (λ (n : ℕ). let i : Id = record { 0 = n } in i) (eqb-true row.id.0 id.0 named);
+      project = (bytes_eq-Decides row.project caller.project).0 both.0;
+      live = both.1;
     }
 
 pub not_expired : (t : ℕ) (expiration : Option ℕ) (at : ℕ) → is_live t expiration ≡ true → expiration ≡ Some at → t < at

@@ -1,8 +1,9 @@
 -- The operations on secrets.
-use Rattle.std.specs.Prelude.{ℕ, ◌^◌, ◌&&◌, Bool, true, List, [], ◌∷◌, length, Option, Some, None, Result, Ok, nat_lt, nat_le, find, option_and_then, if◌then◌else◌, is_some, Err}
+use Rattle.std.specs.Prelude.{ℕ, ◌^◌, ◌&&◌, Bool, true, List, [], ◌∷◌, length, Option, Some, None, Result, Ok, nat_lt, nat_le, option_and_then, if◌then◌else◌, is_some, Err}
 use Rattle.std.specs.Str.{bytes_eq}
 use Rattle.kms_world.specs.Effect.{SecretPut}
-use Rattle.kms_world.specs.Id.{id_at, is_id}
+use Rattle.kms_world.specs.Id.{id_at}
+use Rattle.kms_world.specs.LookUp.{secret_of}
 use Rattle.kms_world.specs.Secret.{attributes_of}
 use Rattle.kms_world.specs.State.{State}
 use Rattle.kms_world.specs.declared.id.Id.{Id}
@@ -69,13 +70,18 @@ abbrev pub is_live : ℕ → Option ℕ → Bool
 is_live t None = true
 is_live t (Some expiration) = nat_lt t expiration
 
--- the caller's project has this secret under this id at this time
-abbrev pub is_secret : Caller → Id → ℕ → SecretRow → Bool
-is_secret caller id t row = is_id id row.id && bytes_eq row.project caller.project && is_live t row.expiration
+-- the caller's project has this secret at this time
+abbrev pub is_shown : Caller → ℕ → SecretRow → Bool
+is_shown caller t row = bytes_eq row.project caller.project && is_live t row.expiration
 
--- the secret under the id in a path, if there is one
+-- what is there, where it passes the test
+abbrev pub if_passes : {A : Type 0} → (A → Bool) → Option A → Option A
+if_passes test None = None
+if_passes test (Some x) = if test x then Some x else None
+
+-- the secret under the id in a path, if the caller's project has one
 abbrev pub secret_at : State → Caller → Option Id → ℕ → Option SecretRow
-secret_at s caller id t = option_and_then (λ i. find (is_secret caller i t) s.secrets) id
+secret_at s caller id t = option_and_then (λ i. if_passes (is_shown caller t) (secret_of i s.secrets)) id
 
 -- POST of a secret
 abbrev pub posted : State → Caller → Result SecretBody Refusal → ℕ → Result Done Refusal

@@ -99,34 +99,44 @@ same_files was now same =
 
 pub settled_same : (engine : Held) (n : ℕ) (was now : History) → Same was now → IsSettled engine n was → IsSettled engine n now
 settled_same engine n was now same s =
-    let o = s.opened in
+    let k = s.opened in
+    let o = k.opened in
     let p = o.placed in
     let here = same_reads was now same o.standing.file in
     record {
       idle = s.idle;
       opened = record {
-        standing = o.standing;
-        placed = record {
-          attached = record { done = same.attached ∙ p.attached.done };
-          current = ap standing_of (same_files was now same) ∙ p.current;
-          whole = p.whole;
-          here = p.here;
-          read = p.read;
-          last = ap length here ∙ p.last;
-          clear = ap (λ (l : List ℕ). get_or l o.standing.stop 0) here ∙ p.clear;
+        kept = k.kept;
+        settled = k.settled;
+        opened = record {
+          standing = o.standing;
+          placed = record {
+            attached = record { done = same.attached ∙ p.attached.done };
+            current = ap standing_of (same_files was now same) ∙ p.current;
+            whole = p.whole;
+            here = p.here;
+            read = p.read;
+            last = ap length here ∙ p.last;
+            clear = ap (λ (l : List ℕ). get_or l o.standing.stop 0) here ∙ p.clear;
+          };
+          keeps = o.keeps;
+          counted = o.counted;
+          leads = o.leads;
         };
-        kept = o.kept;
-        counted = o.counted;
-        ahead = o.ahead;
+        now = k.now;
       };
     }
 
 -- what a store stands for that is settled
 pub settled_stands : (engine : Held) (n : ℕ) (h : History) → IsSettled engine n h → Stands (files h) engine.state n
-settled_stands engine n h s = let o = s.opened in record { standing = o.standing; current = o.placed.current; kept = o.kept; counted = o.counted }
+settled_stands engine n h s =
+    let o = s.opened.opened in
+    record { kept = s.opened.kept; is = s.opened.settled; files = record { standing = o.standing; current = o.placed.current; keeps = o.keeps; counted = o.counted } }
 
 pub stands_by : (two others : List ℕ × List ℕ) (state : State) (n : ℕ) → standing_of two ≡ standing_of others → Stands others state n → Stands two state n
-stands_by two others state n same s = record { standing = s.standing; current = same ∙ s.current; kept = s.kept; counted = s.counted }
+stands_by two others state n same s =
+    let f = s.files in
+    record { kept = s.kept; is = s.is; files = record { standing = f.standing; current = same ∙ f.current; keeps = f.keeps; counted = f.counted } }
 
 pub quiet_image : (h : History) (image : List ℕ × List ℕ) → IsQuietStore h → IsImage h image → standing_of image ≡ standing_of (files h)
 quiet_image h image quiet is = (untouched_keeps h h (untouched h)).images quiet image is

@@ -22,7 +22,7 @@ use Rattle.kms_journal.specs.Standing.{standing, standing_of, newer}
 use Rattle.kms_journal.specs.declared.fault.CreateFault.{CreateFault}
 use Rattle.kms_journal.specs.declared.fault.CreateFault.TheVariants as creation
 use Rattle.kms_journal.proofs.CreateLaws.{is_there, is_not_there}
-use Rattle.kms_core.proofs.StandsLaws.{fresh_kept, fresh_counted}
+use Rattle.kms_core.proofs.StandsLaws.{fresh_stands as fresh_store}
 use Rattle.kms_serve.proofs.CrashLaws.{quiet_image}
 use Rattle.kms_serve.proofs.StoreCallLaws.{failed-append, none_failed, failed_once, before_each}
 use Rattle.kms_serve.specs.StoreCalls.{store_failed, IsUnfailedBefore}
@@ -32,7 +32,7 @@ use Rattle.kms_serve.specs.declared.status.Status.TheVariants as status
 
 -- A fresh store is an empty key manager.
 pub fresh_stands : (image : List ℕ × List ℕ) (tag : ℕ) → tag < 2 ^ 60 → standing_of image ≡ Some (fresh tag) → IsFreshStore image tag
-fresh_stands image tag low is = (record { standing = fresh tag; current = is; kept = fresh_kept tag low; counted = fresh_counted tag }, is)
+fresh_stands image tag low is = (fresh_store image tag low is, is)
 
 -- Calls over two spans, the later ones first.
 

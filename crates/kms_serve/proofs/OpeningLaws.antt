@@ -13,14 +13,13 @@ use Rattle.kms_host.proofs.Moments.{at_more, at_map, since_told, then_calls-appe
 use Rattle.kms_journal.specs.Device.{IsQuietStore}
 use Rattle.kms_journal.specs.Fault.{Fails}
 use Rattle.kms_journal.specs.Recovery.{KeepsStanding}
-use Rattle.kms_journal.specs.Standing.{Standing}
 use Rattle.kms_world.specs.State.{State}
-use Rattle.kms_core.specs.Stands.{Stands, IsDamagedAt, kept_as}
+use Rattle.kms_core.specs.Stands.{Stands}
 use Rattle.kms_core.specs.Starting.{Starts, IsStart, is_failed_start}
 use Rattle.kms_core.specs.Steps.{Held, IsSettled}
 use Rattle.kms_core.specs.declared.start_fault.StartFault.{StartFault}
 use Rattle.kms_core.specs.declared.start_fault.StartFault.TheVariants as start
-use Rattle.kms_core.proofs.StandsLaws.{one_state, some_is, undamaged}
+use Rattle.kms_core.proofs.StandsLaws.{one_state, no_damage}
 use Rattle.kms_host.specs.Store.{apart_from_files, others}
 use Rattle.kms_host.proofs.Moments.{at_last}
 use Rattle.kms_serve.specs.Answered.{Answered, InTurn}
@@ -282,11 +281,10 @@ ended_unopened endpoint store s was calls u first steps stands = by_status s u.w
     unfinished = same_opening (at_end 0) store was calls (λ file c x. refl) u.opening
 
     by_status : (s : Status) → IsRefused s was calls → EndedAt endpoint (run_start store was first steps) s calls
-    by_status status.NoStore why = let no : None ≡ Some stands.standing = sym why.0 ∙ stands.current in absurd (cc)
+    by_status status.NoStore why = let no : None ≡ Some stands.files.standing = sym why.0 ∙ stands.files.current in absurd (cc)
     by_status (status.Damaged place) why =
         let d = why.0 in
-        let same : d.0 ≡ stands.standing = some_is d.0 stands.standing (sym d.2 ∙ stands.current) in
-        absurd (undamaged stands.standing (kept_as first) d.1 stands.kept (subst (λ (x : Standing). IsDamagedAt x d.1) same d.4))
+        absurd (no_damage (files was) first steps d.0 d.1 stands d.2 d.4)
     by_status status.StoreFault why = record {
       marks = [];
       each = each_of endpoint store was first steps calls stands u.opening;

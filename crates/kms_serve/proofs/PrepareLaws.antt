@@ -1,6 +1,6 @@
 -- A message is answered, and its steps are settled.
-use Rattle.std.proofs.Common.{◌≡◌, ℕ, ◌+◌, List, [], ◌∷◌, ◌++◌, Bool, true, false, Option, Some, None, Result, Ok, Err, refl, sym, ap, subst, ◌∙◌, arith, length, length-append}
-use Rattle.std.specs.Prelude.{IsTrue, OnOk, is_err, is_some}
+use Rattle.std.proofs.Common.{◌≡◌, ℕ, ◌+◌, ◌<◌, List, [], ◌∷◌, ◌++◌, Bool, true, false, Option, Some, Result, Ok, Err, refl, sym, ap, subst, ◌∙◌, arith, length, length-append}
+use Rattle.std.specs.Prelude.{OnOk, is_err}
 use Rattle.std.proofs.lemmas.Bool.{false≢true}
 use Rattle.std.proofs.lemmas.List.{nil_from_length}
 use Rattle.kms_host.specs.History.{History, Tells, WhereTold, then_call}
@@ -16,16 +16,16 @@ use Rattle.kms_journal.specs.Fault.{Fails}
 use Rattle.kms_journal.specs.Position.{Position, IsPlaced}
 use Rattle.kms_journal.specs.Standing.{Standing}
 use Rattle.kms_world.specs.State.{State}
-use Rattle.kms_core.specs.Settling.{IsOpened, IsSettledOrAll, Settles}
-use Rattle.kms_core.specs.Steps.{Held, IsIdle, IsSettled}
-use Rattle.kms_core.specs.Waiting.{Spelled, Keeping, WaitingLead, count_of}
+use Rattle.kms_core.specs.Settling.{IsOpened, IsSettledOrAll, Settles, count_of}
+use Rattle.kms_core.specs.Steps.{Held, IsIdle, IsSettled, KeepsTheSame, Waits}
+use Rattle.kms_kept.specs.Kept.{Kept}
 use Rattle.kms_core.proofs.StandsLaws.{one_state}
 use Rattle.kms_host.specs.Disk.{files}
 use Rattle.kms_http.specs.Reply.{fault_reply_of}
 use Rattle.kms_http.specs.Stream.{Served}
 use Rattle.kms_http.specs.declared.fault.FaultReply.TheVariants.{F1}
 use Rattle.kms_serve.specs.Events.{event}
-use Rattle.kms_serve.specs.Owed.{Waits, Responds, Settled, PreparesReply, owed_bytes, is_fault, steps_at}
+use Rattle.kms_serve.specs.Owed.{Responds, Settled, PreparesReply, owed_bytes, is_fault, steps_at}
 use Rattle.kms_serve.specs.StoreCalls.{store_failed, IsUnfailedBefore, OnlyFiles}
 use Rattle.kms_serve.specs.Turns.{CanServe}
 use Rattle.kms_serve.specs.declared.owed.Owed.{Owed}
@@ -36,7 +36,7 @@ use Rattle.kms_serve.proofs.StoreCallLaws.{only_files, failed_since, failed_once
 -- what settling promises, as its contract says it
 abbrev pub SettleClause : {T E : Type 0} → (then after : Held) → Result T E → (was now : History) → Type 0
 SettleClause then after result was now = (settled : State) (steps : ℕ) → IsOpened then.store was settled steps then.state
-    → Settles after.store result settled steps then.state (count_of then.store.waiting) was now
+    → Settles after.store result settled steps then.state (count_of then.store) was now
 
 -- the calls that settled
 pub record Calls (before after : Held) (steps more : ℕ) (failed : Bool) (mid now : History) : Type 0 where
@@ -48,11 +48,6 @@ pub record Calls (before after : Held) (steps more : ℕ) (failed : Bool) (mid n
   pub unfailed : IsUnfailedBefore on_files
   pub settled : Settled before after steps more failed mid on_files
 
--- no step waits where their number is 0
-waiting_none : (w : Option Spelled) (s t : State) → count_of w ≡ 0 → WaitingLead w s t → w ≡ None
-waiting_none None s t none ahead = refl
-waiting_none (Some w) s t none ahead = absurd (omega (arith, none, ahead.1.count, ahead.1.admitted.some))
-
 no_calls : (h : History) (more : List Call) → then_calls h more ≡ h → more ≡ []
 no_calls h more same =
     let long = ap length (sym (then_calls-calls h more) ∙ ap (λ (x : History). x.calls) same) in
@@ -61,42 +56,54 @@ no_calls h more same =
 module _ (before then after : Held) (steps more : ℕ) (mid now : History) (s : IsSettled before steps mid) (waits : Waits before then more) (same : after.state ≡ then.state) where
   opened : IsOpened then.store mid before.state steps then.state
   opened =
-      let o = s.opened in
-      record { standing = o.standing; placed = subst (λ (p : Position). IsPlaced p mid o.standing) (sym waits.journal) o.placed; kept = o.kept; counted = o.counted; ahead = waits.ahead }
+      let k = s.opened in
+      let o = k.opened in
+      record {
+        kept = k.kept;
+        settled = k.settled;
+        opened = record {
+          standing = o.standing;
+          placed = subst (λ (p : Position). IsPlaced p mid o.standing) (sym waits.journal) o.placed;
+          keeps = o.keeps;
+          counted = o.counted;
+          leads = waits.leads k.kept o.leads;
+        };
+        now = waits.now k.now;
+      }
 
-  idle_then : more ≡ 0 → IsIdle then
-  idle_then none = waiting_none then.store.waiting before.state then.state (waits.count ∙ none) waits.ahead
+  many : count_of then.store ≡ more
+  many = omega (arith, waits.count, s.idle.count)
 
   abbrev Moment : (state : State) → (many : ℕ) → List Call → Type 0
   Moment state many x = IsSettledOrAll before.state steps state many mid (then_calls mid x)
 
-  moments : (on_files : List Call) → AtEach (Moment then.state (count_of then.store.waiting)) on_files → AtEach (Moment after.state more) on_files
+  moments : (on_files : List Call) → AtEach (Moment then.state (count_of then.store)) on_files → AtEach (Moment after.state more) on_files
   moments on_files each =
-      at_map (Moment then.state (count_of then.store.waiting)) (Moment after.state more) on_files
-      (λ x h. subst (λ (k : ℕ). Moment after.state k x) waits.count (subst (λ (q : State). Moment q (count_of then.store.waiting) x) (sym same) h))
+      at_map (Moment then.state (count_of then.store)) (Moment after.state more) on_files
+      (λ x h. subst (λ (k : ℕ). Moment after.state k x) many (subst (λ (q : State). Moment q (count_of then.store) x) (sym same) h))
       each
 
-  settled_now : IsIdle after → (on_files : List Call) → now ≡ then_calls mid on_files → IsOpened after.store now then.state (steps + count_of then.store.waiting) then.state
+  settled_now : IsIdle after → (on_files : List Call) → now ≡ then_calls mid on_files → IsOpened after.store now then.state (steps + count_of then.store) then.state
       → IsSettled after (steps + more) (then_calls mid on_files)
   settled_now idle on_files extends o =
       record {
         idle = idle;
         opened =
             subst (λ (q : State). IsOpened after.store (then_calls mid on_files) q (steps + more) q) (sym same)
-            (subst (λ (n : ℕ). IsOpened after.store (then_calls mid on_files) then.state (steps + n) then.state) waits.count (subst (λ (h : History). IsOpened after.store h then.state (steps + count_of then.store.waiting) then.state) extends o));
+            (subst (λ (n : ℕ). IsOpened after.store (then_calls mid on_files) then.state (steps + n) then.state) many (subst (λ (h : History). IsOpened after.store h then.state (steps + count_of then.store) then.state) extends o));
       }
 
-  pub calls_of : {T E : Type 0} (result : Result T E) → SettleClause then after result mid now → Fails (is_err result) mid now → OnOk result (IsIdle after) → (IsIdle then → now ≡ mid)
+  pub calls_of : {T E : Type 0} (result : Result T E) → SettleClause then after result mid now → Fails (is_err result) mid now → OnOk result (IsIdle after) → (count_of then.store ≡ 0 → now ≡ mid)
       → Calls before after steps more (is_err result) mid now
   calls_of (Ok x) clause fails idle uncalled =
       let k = clause before.state steps opened in
       let t = k.throughout in
-      let only = only_files mid t.more (ap (λ (h : History). others h) (sym t.extends) ∙ (at_last (IsSettledOrAll before.state steps then.state (count_of then.store.waiting) mid) mid now t).others) in
+      let only = only_files mid t.more (ap (λ (h : History). others h) (sym t.extends) ∙ (at_last (IsSettledOrAll before.state steps then.state (count_of then.store) mid) mid now t).others) in
       record {
         on_files = t.more;
         extends = t.extends;
         only = only;
-        idle = λ none. no_calls mid t.more (sym t.extends ∙ uncalled (idle_then none));
+        idle = λ none. no_calls mid t.more (sym t.extends ∙ uncalled (many ∙ none));
         fails = failed_since mid t.more false (subst (Fails false mid) t.extends fails);
         unfailed = failed_once mid t.more false (subst (Fails false mid) t.extends fails);
         settled = record {
@@ -108,12 +115,12 @@ module _ (before then after : Held) (steps more : ℕ) (mid now : History) (s : 
   calls_of (Err e) clause fails idle uncalled =
       let k = clause before.state steps opened in
       let t = k.throughout in
-      let only = only_files mid t.more (ap (λ (h : History). others h) (sym t.extends) ∙ (at_last (IsSettledOrAll before.state steps then.state (count_of then.store.waiting) mid) mid now t).others) in
+      let only = only_files mid t.more (ap (λ (h : History). others h) (sym t.extends) ∙ (at_last (IsSettledOrAll before.state steps then.state (count_of then.store) mid) mid now t).others) in
       record {
         on_files = t.more;
         extends = t.extends;
         only = only;
-        idle = λ none. no_calls mid t.more (sym t.extends ∙ uncalled (idle_then none));
+        idle = λ none. no_calls mid t.more (sym t.extends ∙ uncalled (many ∙ none));
         fails = failed_since mid t.more true (subst (Fails true mid) t.extends fails);
         unfailed = failed_once mid t.more true (subst (Fails true mid) t.extends fails);
         settled = record {
@@ -130,7 +137,7 @@ pub record Settling (before after : Held) (time more : ℕ) (failed : Bool) (was
 
 pub settling : {a d c : Option History} {T E : Type 0} (before then after : Held) (time more : ℕ) (result : Result T E)
     → WhereTold a (CanServe before) → Tells a d (λ was now. now ≡ then_call was (Told time)) → Waits before then more
-    → Tells d c (SettleClause then after result) → Tells d c (Fails (is_err result)) → after.state ≡ then.state → OnOk result (IsIdle after) → (IsIdle then → c ≡ d)
+    → Tells d c (SettleClause then after result) → Tells d c (Fails (is_err result)) → after.state ≡ then.state → OnOk result (IsIdle after) → (count_of then.store ≡ 0 → c ≡ d)
     → Tells a c (Settling before after time more (is_err result))
 settling before then after time more result ready told waits clause fails same idle uncalled =
     tells_then (Settling before after time more (is_err result))
@@ -194,13 +201,25 @@ ready_settling before after time more was now k =
     let f = k.calls in
     record { unshut = open_settling before after time more false was now k; steps = k.ready.steps + more; settled = subst (IsSettled after (k.ready.steps + more)) (sym f.extends) (f.settled.done refl) }
 
--- what waits, told of an engine of the same state and store
-pub waits_by : (a b after : Held) (m n : ℕ) → b.store ≡ a.store → b.state ≡ a.state → m ≡ n → Waits b after m → Waits a after n
-waits_by a b after m n store state steps w = record {
-  journal = w.journal ∙ ap (λ (k : Keeping). k.journal) store;
-  count = w.count ∙ steps;
-  ahead = subst (λ (q : State). WaitingLead after.store.waiting q after.state) state w.ahead;
+-- what waits, told of an engine that keeps the same
+pub waits_by : (a b after : Held) (m n : ℕ) → KeepsTheSame a.store b.store → b.state ≡ a.state → m ≡ n → Waits b after m → Waits a after n
+waits_by a b after m n same state steps w = record {
+  journal = w.journal ∙ same.journal;
+  count = omega (arith, w.count, same.count, steps);
+  leads = λ settled l. w.leads settled (record {
+    steps = l.steps;
+    spells = record { count = same.count ∙ l.spells.count; spelled = same.steps ∙ l.spells.spelled; admitted = l.spells.admitted };
+    leads = l.leads ∙ ap (λ (k : Kept). Some k) (sym same.kept);
+  });
+  now = λ e. w.now (ap (λ (k : Kept). k.state) same.kept ∙ e ∙ sym state);
 }
+
+-- no step more
+pub waits_none : (engine : Held) → Waits engine engine 0
+waits_none engine = record { journal = refl; count = omega arith; leads = λ settled l. l; now = λ e. e }
+
+pub waits_same : (a b : Held) → KeepsTheSame a.store b.store → b.state ≡ a.state → Waits a b 0
+waits_same a b same state = waits_by a b b 0 0 same state refl (waits_none b)
 
 -- What calls on lines leave as it is.
 
@@ -227,11 +246,11 @@ ready_gave engine was gives k only = record {
 
 -- Where the steps that wait are written, the journal stands at its place.
 pub placed : {a d : Option History} (before then : Held) (time : ℕ) → WhereTold a (CanServe before) → Tells a d (λ was now. now ≡ then_call was (Told time)) → (steps : ℕ) × Waits before then steps
-    → IsTrue (is_some then.store.waiting) → WhereTold d (λ h. (s : Standing) × IsPlaced then.store.journal h s)
+    → 0 < count_of then.store → WhereTold d (λ h. (s : Standing) × IsPlaced then.store.journal h s)
 placed before then time ready told waits some =
     let later = known_with_told (CanServe before) ready told (λ was now k is. ready_told before time was now k is) in
     record {
       told = λ now there.
-          let o = (later.told now there).settled.opened in
+          let o = (later.told now there).settled.opened.opened in
           (o.standing, subst (λ (p : Position). IsPlaced p now o.standing) (sym waits.1.journal) o.placed);
     }

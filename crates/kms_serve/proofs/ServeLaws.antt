@@ -8,7 +8,8 @@ use Rattle.kms_host.specs.declared.call.Call.TheVariants.{Attached}
 use Rattle.kms_host.proofs.Moments.{since_since, since_weaker, since_nothing}
 use Rattle.kms_core.specs.Stands.{Stands}
 use Rattle.kms_core.specs.Steps.{Held, IsSettled}
-use Rattle.kms_core.proofs.StandsLaws.{one_state, some_is}
+use Rattle.kms_core.proofs.StandsLaws.{one_state}
+use Rattle.kms_store.proofs.StandsLaws.{some_is}
 use Rattle.kms_serve.specs.RunStart.{run_start, FromStore}
 use Rattle.kms_serve.specs.Init.{IsInitDone, IsInitStatus}
 use Rattle.kms_serve.specs.Opening.{BeginsWith, AreOpeningCalls, OpensStore, IsRefusalStatus}

@@ -7,8 +7,7 @@ use Rattle.kms_host.specs.declared.call.Call.{Call}
 use Rattle.kms_host.specs.declared.call.Call.TheVariants.{Text, Listened, Came, Attached, Took, Gave, Shut, OnFile, Told, Drew}
 use Rattle.kms_journal.specs.Device.{IsQuietStore}
 use Rattle.kms_core.specs.Settling.{IsSettledOrAll}
-use Rattle.kms_core.specs.Steps.{Held, IsSettled}
-use Rattle.kms_core.specs.Waiting.{WaitingLead, count_of}
+use Rattle.kms_core.specs.Steps.{Held, IsSettled, Waits}
 use Rattle.kms_model.specs.Run.{answer_at, state_at, stores_at, steps_if}
 use Rattle.kms_model.specs.declared.event.Mark.{Mark}
 use Rattle.kms_http.specs.Stream.{Served}
@@ -32,12 +31,6 @@ abbrev pub is_fault : Owed → Bool
 is_fault (Reply bytes) = false
 is_fault OutOfMemory = false
 is_fault StoreFault = true
-
--- So many steps wait, and lead from the state before to the one after.
-pub record Waits (before after : Held) (steps : ℕ) : Type 0 where
-  pub journal : after.store.journal ≡ before.store.journal
-  pub count : count_of after.store.waiting ≡ steps
-  pub ahead : WaitingLead after.store.waiting before.state after.state
 
 -- how many steps an event makes
 abbrev pub steps_at : Held → LineEvent → Mark → ℕ

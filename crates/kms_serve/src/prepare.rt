@@ -6,21 +6,22 @@ ghost use Rattle.kms_host.specs.Line.{IsOpen};
 ghost use Rattle.kms_host.specs.Moment.{Since};
 ghost use Rattle.kms_http.specs.Reply.{printed};
 ghost use Rattle.kms_http.specs.Stream.{Served, is_last};
-ghost use Rattle.kms_core.specs.Steps.{Prepares as Leads, IsIdle, IsWorking, IsSpelledAfter};
+ghost use Rattle.kms_core.specs.Steps.{Prepares as Leads, KeepsTheSame, Waits, IsIdle, IsWorking};
 ghost use Rattle.kms_json.specs.Answer.{reply_of};
 ghost use Rattle.kms_model.specs.Run.{asked_answer, asked_state, asked_stores, steps_if};
 ghost use Rattle.kms_serve.specs.Events.{LineEvent, most};
-ghost use Rattle.kms_serve.specs.Owed.{PreparesReply, Responds, Waits, is_fault};
+ghost use Rattle.kms_serve.specs.Owed.{PreparesReply, Responds, is_fault};
 ghost use Rattle.kms_serve.specs.Replies.{request_of};
 ghost use Rattle.kms_serve.specs.Turns.{CanServe};
 ghost use Rattle.kms_world.specs.State.{State};
 ghost use Rattle.kms_world.specs.Times.{HasTimes};
 
 use crate::owed::Owed;
-use kms_core::{Asked, Engine, Step};
+use kms_core::{Asked, Engine};
 use kms_host::Host;
 use kms_http::print;
 use kms_json::answer as reply_to;
+use kms_store::ReadyStep;
 use kms_world::{Answer, Bytes, NoMemory, Request};
 use std::alloc::Global;
 
@@ -43,12 +44,11 @@ fn asked<H: Host>(
     requires moment { moment < 253402300800 }
     requires idle { IsIdle engine.old }
     ensures answer { IfOk result (λ a. a.answer ≡ asked_answer engine.old.state request moment) }
-    ensures step { IfOk result (λ a. Leads a.step engine.old.state (asked_state engine.old.state request moment) engine.new.room) }
+    ensures step { IfOk result (λ a. Leads a.step engine.new (asked_state engine.old.state request moment)) }
     ensures stores { IfOk result (λ a. is_some a.step ≡ asked_stores engine.old.state request moment) }
-    ensures spelled { IfOk result (λ a. IfSome a.step (IsSpelledAfter engine.old)) }
     ensures times { IfOk result (λ a. HasTimes a.answer) }
     ensures same { engine.new.state ≡ engine.old.state }
-    ensures store { engine.new.store ≡ engine.old.store }
+    ensures store { KeepsTheSame engine.old.store engine.new.store }
     ensures host { host.new ≡ host.old }
 {
     match request {
@@ -64,11 +64,9 @@ fn asked<H: Host>(
 }
 
 // Takes over the step, where there is one. It waits to be settled.
-fn take_over(engine: &mut Engine, step: Option<Step>)
-    requires leads { (after : State) × Leads step engine.old.state after engine.old.room }
-    requires spelled { IfSome step (IsSpelledAfter engine.old) }
-    requires idle { IsIdle engine.old }
-    ensures state { (after : State) → Leads step engine.old.state after engine.old.room → engine.new.state ≡ after }
+fn take_over(engine: &mut Engine, step: Option<ReadyStep>)
+    requires { (after : State) × Leads step engine.old after }
+    ensures state { (after : State) → Leads step engine.old after → engine.new.state ≡ after }
     ensures waits { Waits engine.old engine.new (steps_if (is_some step)) }
 {
     if let Some(step) = step {
@@ -91,7 +89,7 @@ fn respond<H: Host>(
     ensures reply { IfOk result (λ bytes. bytes ≡ printed (reply_of endpoint.now (asked_answer engine.old.state request moment)) moment last) }
     ensures state { OnOk result (engine.new.state ≡ asked_state engine.old.state request moment) }
     ensures waits { OnOk result (Waits engine.old engine.new (steps_if (asked_stores engine.old.state request moment))) }
-    ensures err { OnErr result ((engine.new.state ≡ engine.old.state) × (engine.new.store ≡ engine.old.store)) }
+    ensures err { OnErr result ((engine.new.state ≡ engine.old.state) × KeepsTheSame engine.old.store engine.new.store) }
     ensures host { host.new ≡ host.old }
 {
     let Asked { answer, step } = asked(engine, host, request, moment)?;

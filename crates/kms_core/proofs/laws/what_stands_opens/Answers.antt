@@ -1,4 +1,4 @@
-use Rattle.kms_core.proofs.DamageLaws.{stands_opens}
+use Rattle.kms_core.proofs.StandsLaws.{stands_opens}
 use Rattle.kms_core.proofs.laws.what_stands_opens.Goals as goal
 
 pub returns : goal.returns

@@ -1,24 +1,15 @@
-// Prepared changes.
+// Answers, and the steps that they need.
 ghost use Rattle.std.specs.Prelude.{◌≡◌, None};
 
-use crate::waiting::Waiting;
-use kms_world::{Answer, NoMemory, Refusal, SecretRow};
+use kms_store::ReadyStep;
+use kms_world::{Answer, NoMemory, Refusal};
 use std::alloc::{AllocError, AllocFailed};
 
-/// A change that was prepared with all the memory that it needs, and not made yet.
-#[derive(Drop, Debug)]
-pub struct Step {
-    /// the secret that it adds
-    pub secret: SecretRow,
-    // the steps that wait to be settled and this one, spelled
-    pub(crate) waiting: Waiting,
-}
-
 /// An answer, and the step that has to be taken over before it is given.
-#[derive(Drop, Debug)]
+#[derive(Drop)]
 pub struct Asked {
     pub answer: Answer,
-    pub step: Option<Step>,
+    pub step: Option<ReadyStep>,
 }
 
 // A refusal, which changes nothing.

@@ -1,5 +1,0 @@
-use Rattle.kms_core.proofs.DamageLaws.{whole_or_damaged}
-use Rattle.kms_core.proofs.laws.a_store_is_whole_or_damaged.Goals as goal
-
-pub returns : goal.returns
-returns c = whole_or_damaged
