@@ -50,14 +50,14 @@ fn a_store_is_made_once(rt: HostRuntime) -> Result<(), Fail> {
     Ok(())
 }
 
-// The calls of the store are: one that names it, eight that look for one, four that empty file 0, and a write and a sync
-// twice.
+// The calls of the store are: one that names it, eight that look for one, four that empty file 0, three writes and a sync,
+// and a write and a sync.
 #[test]
 fn making_a_store_fails(rt: HostRuntime) -> Result<(), Fail> {
     let alloc = rt.alloc();
     let draw = Some((Count::Draw, 1));
     let naming = Some((Count::Store, 1));
-    let last_sync = Some((Count::Store, 17));
+    let last_sync = Some((Count::Store, 19));
     assert!(rt; ends(alloc, EMPTY, draw, Status::DrawFault, EMPTY)?);
     assert!(rt; ends(alloc, EMPTY, naming, Status::StoreFault, EMPTY)?);
     assert!(rt; ends(alloc, EMPTY, last_sync, Status::StoreFault, &FRESH)?);
