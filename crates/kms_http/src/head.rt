@@ -8,7 +8,7 @@ use crate::past::past;
 /// How many bytes the head has: those up to and with the first CR LF CR LF (RFC 9112 section 2.1). None where there is
 /// none.
 #[tactic(auto, using(crate::proofs::PastLaws::past_length), unfolding(crate::specs::Forms::head_len))]
-fn head_len(bytes: &[u8]) -> Option<usize>
+pub fn head_len(bytes: &[u8]) -> Option<usize>
     ensures value { result ≡ spec.head_len bytes.now }
     ensures bound { IfSome result (λ n. (4 ≤ n) × (n ≤ length bytes.now)) }
 {

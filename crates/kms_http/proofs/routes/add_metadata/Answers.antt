@@ -1,0 +1,12 @@
+use Rattle.kms_http.specs.Routes.{secrets_rows, metadata_rows}
+use Rattle.matchit.proofs.OnLiterals.{matchit_on_literals}
+use Rattle.kms_http.proofs.routes.add_metadata.Goals as goal
+
+pub returns : goal.returns
+unfolding matchit_on_literals secrets_rows metadata_rows
+returns c =
+    let a = c.in_ok-insert.ensures in
+    let b = c.in_ok-insert-2.ensures in
+    let d = c.in_ok-insert-3.ensures in
+    let e = c.in_ok-insert-4.ensures in
+    rw (e.1, d.1, b.1, a.1, c.requires)
