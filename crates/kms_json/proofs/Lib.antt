@@ -1,2 +1,4 @@
 pub mod Phrases
+mod BodyLaws
 mod Floats
+mod ListLaws

@@ -1,12 +1,17 @@
 -- Each status of an answer has a reason phrase.
-use Rattle.std.proofs.Common.{◌≡◌, ℕ, List, Some, is_some, true, refl, ap, arith}
+use Rattle.std.proofs.Common.{◌≡◌, ℕ, List, Some, is_some, Result, Ok, Err, true, refl, ap, arith}
 use Rattle.http.specs.StatusCode.{IsStatusCode, reason_phrase}
+use Rattle.kms_world.specs.declared.answer.ListRows.{ListRows}
+use Rattle.kms_world.specs.declared.refusal.Field.{Field}
 use Rattle.kms_world.specs.declared.refusal.Refusal.{Refusal}
 use Rattle.kms_world.specs.declared.refusal.Refusal.TheVariants.{BadMessage, HeadTooLong, BodyTooLong, LengthRequired, NoIdentity, NoRoute, WrongMethod, NoObject, Denied, NotAcceptable, WrongType, BadBody, PayloadTooLong, NotOffered, Conflict, QuotaReached, IdsSpent}
 use Rattle.kms_world.specs.declared.answer.Answer.{Answer}
 use Rattle.kms_world.specs.declared.answer.Answer.TheVariants.{Refused, Empty, Link, Secret, Payload, Metadata, Pair, Acl, Order, Container, Quotas, ProjectQuotas, List as ListAnswer}
 use Rattle.kms_json.specs.Refused.{status_of, title_of}
-use Rattle.kms_json.specs.Answer.{HasForm, reply_of}
+use Rattle.kms_page.specs.Query.{query_of}
+use Rattle.kms_page.specs.declared.query.Query.{Query}
+use Rattle.kms_json.specs.List.{listing_of}
+use Rattle.kms_json.specs.Answer.{HasForm, list_reply, reply_of}
 
 pub IsStatusCode-status_of : (refusal : Refusal) → IsStatusCode (status_of refusal)
 IsStatusCode-status_of BadMessage = (omega arith, omega arith)
@@ -46,6 +51,10 @@ reason_phrase-status_of Conflict = refl
 reason_phrase-status_of (QuotaReached kind limit) = refl
 reason_phrase-status_of IdsSpent = refl
 
+phrase_of_list : (endpoint path : List ℕ) (query : Result Query Field) (rows : ListRows) (total : ℕ) → is_some (reason_phrase (list_reply endpoint path query rows total).status) ≡ true
+phrase_of_list endpoint path (Ok query) rows total = refl
+phrase_of_list endpoint path (Err field) rows total = refl
+
 -- and so has the reply of each answer that has a form
 pub reason_phrase-reply_of : (endpoint : List ℕ) (answer : Answer) → HasForm answer → is_some (reason_phrase (reply_of endpoint answer).status) ≡ true
 unfolding reply_of
@@ -53,12 +62,12 @@ reason_phrase-reply_of endpoint (Refused refusal) h = ap is_some (reason_phrase-
 reason_phrase-reply_of endpoint (Empty status) h = h
 reason_phrase-reply_of endpoint (Link status link id) h = h
 reason_phrase-reply_of endpoint (Secret row) h = refl
-reason_phrase-reply_of endpoint (Payload payload) h = absurd h
-reason_phrase-reply_of endpoint (Metadata pairs) h = absurd h
-reason_phrase-reply_of endpoint (Pair status key value) h = absurd h
-reason_phrase-reply_of endpoint (Acl row) h = absurd h
-reason_phrase-reply_of endpoint (Order row) h = absurd h
-reason_phrase-reply_of endpoint (Container view) h = absurd h
-reason_phrase-reply_of endpoint (Quotas row) h = absurd h
-reason_phrase-reply_of endpoint (ProjectQuotas row) h = absurd h
-reason_phrase-reply_of endpoint (ListAnswer path query page total) h = absurd h
+reason_phrase-reply_of endpoint (Payload payload) h = refl
+reason_phrase-reply_of endpoint (Metadata pairs) h = refl
+reason_phrase-reply_of endpoint (Pair status key value) h = h
+reason_phrase-reply_of endpoint (Acl row) h = refl
+reason_phrase-reply_of endpoint (Order row) h = refl
+reason_phrase-reply_of endpoint (Container view) h = refl
+reason_phrase-reply_of endpoint (Quotas row) h = refl
+reason_phrase-reply_of endpoint (ProjectQuotas row) h = refl
+reason_phrase-reply_of endpoint (ListAnswer path query rows total) h = phrase_of_list endpoint path (query_of (listing_of rows) query) rows total

@@ -22,12 +22,12 @@ abbrev pub with_content_types : Option Media → Members → Members
 with_content_types None rest = rest
 with_content_types (Some media) rest = member (codes "content_types") (content_types_data media) rest
 
--- links are under an endpoint
-abbrev pub secret_data : List ℕ → SecretRow → Data
-secret_data endpoint row = object (
+-- the members of a secret with a payload of this type; links are under an endpoint
+abbrev pub secret_members : List ℕ → Option Media → SecretRow → Members
+secret_members endpoint media row =
     member (codes "algorithm") (text_or_null row.algorithm) (
     member (codes "bit_length") (number_or_null row.bit_length) (
-    with_content_types (media_of row) (
+    with_content_types media (
     member (codes "created") (time_data row.created) (
     member (codes "creator_id") (string row.creator) (
     member (codes "expiration") (time_or_null row.expiration) (
@@ -36,4 +36,7 @@ secret_data endpoint row = object (
     member (codes "secret_ref") (string (link_of endpoint kind.Secret row.id)) (
     member (codes "secret_type") (string (word_of row.kind)) (
     member (codes "status") (string (codes "ACTIVE")) (
-    member (codes "updated") (time_data row.updated) no_members))))))))))))
+    member (codes "updated") (time_data row.updated) no_members)))))))))))
+
+abbrev pub secret_data : List ℕ → SecretRow → Data
+secret_data endpoint row = object (secret_members endpoint (media_of row) row)

@@ -1,13 +1,12 @@
 // Links as bodies.
 ghost use Rattle.std.specs.Prelude.{◌≡◌, IfOk};
 ghost use Rattle.serde_json.specs.View.{view};
-ghost use Rattle.serde_json.specs.Written.{compact_text};
 ghost use Rattle.kms_json.specs.Link.{key_of, kind_of, link_data, part_of};
 
-use crate::values::body_of;
+use crate::values::object_of;
 use kms_text::{Kind, ref_text};
-use kms_world::{Bytes, Id, Link, NoMemory};
-use serde_json::{Map, Value};
+use kms_world::{Id, Link, NoMemory};
+use serde_json::Value;
 use std::alloc::Global;
 
 fn kind(link: Link) -> Kind
@@ -42,28 +41,17 @@ fn part(link: Link) -> &'static str
     }
 }
 
-fn link_value(alloc: Global, endpoint: &str, link: Link, id: Id) -> Result<Value, NoMemory>
+// The object of a link, as `{"secret_ref":".."}`.
+pub(crate) fn link_value(
+    alloc: Global,
+    endpoint: &str,
+    link: Link,
+    id: Id,
+) -> Result<Value, NoMemory>
     ensures { IfOk result (λ value. view value ≡ link_data endpoint.now link id) }
 {
     let object = ref_text(alloc, endpoint, kind(link), id)?;
     let mut text = String::from_str(alloc, object.as_str())?;
     text.push_str(part(link))?;
-    let mut members = Map::new(alloc);
-    let key = String::from_str(alloc, key(link))?;
-    members.insert(key, Value::String(text))?;
-    Ok(Value::Object(members))
-}
-
-// The object of a link, as `{"secret_ref":".."}`.
-#[tactic(auto, using(crate::proofs::Floats::no_float_link))]
-pub(crate) fn link_body(
-    alloc: Global,
-    endpoint: &str,
-    link: Link,
-    id: Id,
-) -> Result<Bytes, NoMemory>
-    ensures { IfOk result (λ body. body ≡ compact_text (link_data endpoint.now link id)) }
-{
-    let value = link_value(alloc, endpoint, link, id)?;
-    body_of(alloc, &value)
+    object_of(alloc, key(link), Value::String(text))
 }

@@ -2,12 +2,10 @@
 ghost use Rattle.std.specs.Prelude.{◌≡◌, IfOk, option_map, string_bytes};
 ghost use Rattle.http.specs.StatusCode.{IsStatusCode, reason_phrase};
 ghost use Rattle.serde_json.specs.View.{view};
-ghost use Rattle.serde_json.specs.Written.{compact_text};
 ghost use Rattle.kms_json.specs.Refused.{status_of, name_of, description_of, title_of, error_data, allow_of};
 
-use crate::values::body_of;
 use http::StatusCode;
-use kms_world::{Allow, Bytes, NoMemory, Refusal};
+use kms_world::{Allow, Refusal};
 use serde_json::{Value, json};
 use std::alloc::{AllocError, Global};
 
@@ -97,21 +95,14 @@ fn title(refusal: Refusal) -> &'static str
     reason(status(refusal)).unwrap()
 }
 
-fn error_value(alloc: Global, refusal: Refusal) -> Result<Value, AllocError>
+// The object of a refusal: `{"code":404,"description":"NoObject","title":"Not Found"}`.
+pub(crate) fn error_value(alloc: Global, refusal: Refusal) -> Result<Value, AllocError>
     ensures { IfOk result (λ value. view value ≡ error_data refusal) }
 {
     let code = status(refusal);
     let description = description(alloc, refusal)?;
     let title = title(refusal);
     json!(in alloc; {"code": code, "description": description, "title": title})
-}
-
-// The object of a refusal: `{"code":404,"description":"NoObject","title":"Not Found"}`.
-pub(crate) fn error_body(alloc: Global, refusal: Refusal) -> Result<Bytes, NoMemory>
-    ensures { IfOk result (λ body. body ≡ compact_text (error_data refusal)) }
-{
-    let value = error_value(alloc, refusal)?;
-    body_of(alloc, &value)
 }
 
 // The methods of the path, where the request had another (RFC 9110 section 15.5.6).

@@ -1,27 +1,52 @@
 // Answers as replies.
-ghost use Rattle.std.specs.Prelude.{◌≡◌, IfOk};
-ghost use Rattle.kms_world.specs.Times.{HasTimes};
-ghost use Rattle.kms_json.specs.Answer.{empty_reply, refused_reply, reply_of, HasForm};
+ghost use Rattle.std.specs.Prelude.{◌≡◌, None, false, IfOk};
+ghost use Rattle.serde_json.specs.View.{view};
+ghost use Rattle.serde_json.specs.Written.{has_float};
+ghost use Rattle.kms_world.specs.Times.{HasTimes, IsTimely, IsTimelyContainer, IsTimelyIfAny, IsTimelyOrder, RowsHaveTimes};
+ghost use Rattle.kms_page.specs.Query.{query_of};
+ghost use Rattle.kms_json.specs.Acl.{acl_data};
+ghost use Rattle.kms_json.specs.Container.{container_data};
+ghost use Rattle.kms_json.specs.Link.{link_data};
+ghost use Rattle.kms_json.specs.List.{listing_of};
+ghost use Rattle.kms_json.specs.Metadata.{metadata_data, pair_data};
+ghost use Rattle.kms_json.specs.Order.{order_data};
+ghost use Rattle.kms_json.specs.Quota.{quotas_data, project_quotas_data};
+ghost use Rattle.kms_json.specs.Secret.{secret_data};
+ghost use Rattle.kms_json.specs.Answer as spec;
 
-use crate::link::link_body;
-use crate::refused::{allow, error_body, status};
-use crate::secret::secret_body;
-use kms_world::{Answer, Bytes, Media2, NoMemory, Refusal, Reply};
+use crate::acl::acl_value;
+use crate::container::container_value;
+use crate::link::link_value;
+use crate::list::{list_value, listing};
+use crate::metadata::{metadata_value, pair_value};
+use crate::order::order_value;
+use crate::quota::{project_quotas_value, quotas_value};
+use crate::refused::{allow, error_value, status};
+use crate::secret::secret_value;
+use crate::values::body_of;
+use kms_page::{Query, QueryFault};
+use kms_world::{
+    AclRow, Answer, Bytes, ContainerView, Id, Link, ListRows, Media, Media2, NoMemory, OrderRow,
+    Payload, QuotaRow, Refusal, Reply, SecretRow, Text,
+};
+use serde_json::Value;
 use std::alloc::Global;
 
+#[tactic(auto, using(crate::proofs::Floats::no_float_error))]
 fn refused(alloc: Global, refusal: Refusal) -> Result<Reply, NoMemory>
-    ensures { IfOk result (λ reply. reply ≡ refused_reply refusal) }
+    ensures { IfOk result (λ reply. reply ≡ spec.refused_reply refusal) }
 {
+    let value = error_value(alloc, refusal)?;
     Ok(Reply {
         status: status(refusal),
         media: Some(Media2::Json),
         allow: allow(refusal),
-        body: error_body(alloc, refusal)?,
+        body: body_of(alloc, &value)?,
     })
 }
 
 fn empty(alloc: Global, status: u16) -> Reply
-    ensures { result ≡ empty_reply status }
+    ensures { result ≡ spec.empty_reply status }
 {
     Reply {
         status,
@@ -31,47 +56,180 @@ fn empty(alloc: Global, status: u16) -> Reply
     }
 }
 
+const fn media(media: Media) -> Media2
+    ensures { result ≡ spec.media_of media }
+{
+    match media {
+        Media::TextPlain => Media2::TextPlain,
+        Media::OctetStream => Media2::OctetStream,
+    }
+}
+
+fn payload(alloc: Global, payload: &Payload) -> Result<Reply, NoMemory>
+    ensures { IfOk result (λ reply. reply ≡ spec.payload_reply payload.now) }
+{
+    Ok(Reply {
+        status: 200,
+        media: Some(media(payload.media)),
+        allow: None,
+        body: Bytes::of(alloc, payload.bytes.as_slice())?,
+    })
+}
+
+// The reply whose body is a value without floats.
+fn shown(alloc: Global, status: u16, value: &Value) -> Result<Reply, NoMemory>
+    requires { has_float (view value.now) ≡ false }
+    ensures { IfOk result (λ reply. reply ≡ spec.json_reply status None (view value.now)) }
+{
+    Ok(Reply {
+        status,
+        media: Some(Media2::Json),
+        allow: None,
+        body: body_of(alloc, value)?,
+    })
+}
+
+#[tactic(auto, using(crate::proofs::Floats::no_float_link))]
+fn link(alloc: Global, status: u16, link: Link, id: Id, endpoint: &str) -> Result<Reply, NoMemory>
+    ensures { IfOk result (λ reply. reply ≡ spec.json_reply status None (link_data endpoint.now link id)) }
+{
+    let value = link_value(alloc, endpoint, link, id)?;
+    shown(alloc, status, &value)
+}
+
+#[tactic(auto, using(crate::proofs::Floats::no_float_secret))]
+fn secret(alloc: Global, row: &SecretRow, endpoint: &str) -> Result<Reply, NoMemory>
+    requires { IsTimely row.now }
+    ensures { IfOk result (λ reply. reply ≡ spec.json_reply 200 None (secret_data endpoint.now row.now)) }
+{
+    let value = secret_value(alloc, row, endpoint)?;
+    shown(alloc, 200, &value)
+}
+
+#[tactic(auto, using(crate::proofs::Floats::no_float_metadata))]
+fn metadata(alloc: Global, pairs: &[(Text, Text)]) -> Result<Reply, NoMemory>
+    ensures { IfOk result (λ reply. reply ≡ spec.json_reply 200 None (metadata_data pairs.now)) }
+{
+    let value = metadata_value(alloc, pairs)?;
+    shown(alloc, 200, &value)
+}
+
+#[tactic(auto, using(crate::proofs::Floats::no_float_pair))]
+fn pair(alloc: Global, status: u16, key: &Text, value: &Text) -> Result<Reply, NoMemory>
+    ensures { IfOk result (λ reply. reply ≡ spec.json_reply status None (pair_data key.now value.now)) }
+{
+    let value = pair_value(alloc, key, value)?;
+    shown(alloc, status, &value)
+}
+
+#[tactic(auto, using(crate::proofs::Floats::no_float_acl))]
+fn acl(alloc: Global, row: &Option<AclRow>) -> Result<Reply, NoMemory>
+    requires { IsTimelyIfAny row.now }
+    ensures { IfOk result (λ reply. reply ≡ spec.json_reply 200 None (acl_data row.now)) }
+{
+    let value = acl_value(alloc, row)?;
+    shown(alloc, 200, &value)
+}
+
+#[tactic(auto, using(crate::proofs::Floats::no_float_order))]
+fn order(alloc: Global, row: &OrderRow, endpoint: &str) -> Result<Reply, NoMemory>
+    requires { IsTimelyOrder row.now }
+    ensures { IfOk result (λ reply. reply ≡ spec.json_reply 200 None (order_data endpoint.now row.now)) }
+{
+    let value = order_value(alloc, row, endpoint)?;
+    shown(alloc, 200, &value)
+}
+
+#[tactic(auto, using(crate::proofs::Floats::no_float_container))]
+fn container(alloc: Global, one: &ContainerView, endpoint: &str) -> Result<Reply, NoMemory>
+    requires { IsTimelyContainer one.now.row }
+    ensures { IfOk result (λ reply. reply ≡ spec.json_reply 200 None (container_data endpoint.now one.now)) }
+{
+    let value = container_value(alloc, one, endpoint)?;
+    shown(alloc, 200, &value)
+}
+
+#[tactic(auto, using(crate::proofs::Floats::no_float_limits))]
+fn quotas(alloc: Global, row: &QuotaRow) -> Result<Reply, NoMemory>
+    ensures { IfOk result (λ reply. reply ≡ spec.json_reply 200 None (quotas_data row.now)) }
+{
+    let value = quotas_value(alloc, row)?;
+    shown(alloc, 200, &value)
+}
+
+#[tactic(auto, using(crate::proofs::Floats::no_float_limits))]
+fn project_quotas(alloc: Global, row: &QuotaRow) -> Result<Reply, NoMemory>
+    ensures { IfOk result (λ reply. reply ≡ spec.json_reply 200 None (project_quotas_data row.now)) }
+{
+    let value = project_quotas_value(alloc, row)?;
+    shown(alloc, 200, &value)
+}
+
+// The page that a query asks for.
+#[tactic(auto, using(crate::proofs::Floats::no_float_list))]
+fn list(
+    alloc: Global,
+    endpoint: &str,
+    path: &Text,
+    query: &Text,
+    rows: &ListRows,
+    total: u64,
+) -> Result<Reply, NoMemory>
+    requires { RowsHaveTimes rows.now }
+    ensures { IfOk result
+        (λ reply. reply ≡ spec.list_reply endpoint.now path.now (query_of (listing_of rows.now) query.now) rows.now total) }
+{
+    match Query::read(alloc, listing(rows), query.as_str().as_bytes()) {
+        Ok(query) => {
+            let value = list_value(alloc, endpoint, path.as_str(), &query, rows, total)?;
+            shown(alloc, 200, &value)
+        }
+        Err(QueryFault::Bad(field)) => refused(alloc, Refusal::BadBody(field)),
+        Err(QueryFault::NoMemory) => Err(NoMemory),
+    }
+}
+
 /// The reply that an answer is under an endpoint, with which links begin. Its body is JSON (RFC 8259) without white
-/// space, the keys of an object in the order of their bytes:
+/// space, the keys of an object in the order of their bytes; an attribute that is absent is null:
 ///
 /// - a refusal's body has its status, a description and the reason phrase; with 405 the reply has the path's methods too;
 /// - a link's body has the link;
-/// - a secret's body has its attributes, with status 200. Their times are seconds since 1970 below 253402300800 (the
-///   year 10000);
+/// - a secret, an order, a container and an access list have their attributes, metadata and quotas their values, each with
+///   status 200. Times are seconds since 1970 below 253402300800 (the year 10000);
+/// - a payload is the body itself, of its own media type;
+/// - a list has its rows, their total, and the links to the next and the previous page where there are such; its query is
+///   read as a request's is, and one that breaks a rule is refused with 400;
 /// - an answer without a body has its status alone.
 ///
-/// The answers of operations that aren't served yet have no form here, so they aren't taken.
-///
-/// `NoMemory` is the only error.
+/// A status that the answer has itself must have a reason phrase. `NoMemory` is the only error.
 #[tactic(auto, unfolding(crate::specs::Answer::reply_of))]
 pub fn answer(alloc: Global, answer: &Answer, endpoint: &str) -> Result<Reply, NoMemory>
     requires times { HasTimes answer.now }
-    requires form { HasForm answer.now }
-    ensures { IfOk result (λ reply. reply ≡ reply_of endpoint.now answer.now) }
+    requires form { spec.HasForm answer.now }
+    ensures { IfOk result (λ reply. reply ≡ spec.reply_of endpoint.now answer.now) }
 {
     match answer {
         Answer::Refused(refusal) => refused(alloc, *refusal),
         Answer::Empty(status) => Ok(empty(alloc, *status)),
-        Answer::Link { status, link, id } => Ok(Reply {
-            status: *status,
-            media: Some(Media2::Json),
-            allow: None,
-            body: link_body(alloc, endpoint, *link, *id)?,
-        }),
-        Answer::Secret(row) => Ok(Reply {
-            status: 200,
-            media: Some(Media2::Json),
-            allow: None,
-            body: secret_body(alloc, row, endpoint)?,
-        }),
-        Answer::Payload(_)
-        | Answer::Metadata(_)
-        | Answer::Pair { .. }
-        | Answer::Acl(_)
-        | Answer::Order(_)
-        | Answer::Container(_)
-        | Answer::Quotas(_)
-        | Answer::ProjectQuotas(_)
-        | Answer::List { .. } => unreachable!(),
+        Answer::Link {
+            status,
+            link: to,
+            id,
+        } => link(alloc, *status, *to, *id, endpoint),
+        Answer::Secret(row) => secret(alloc, row, endpoint),
+        Answer::Payload(bytes) => payload(alloc, bytes),
+        Answer::Metadata(pairs) => metadata(alloc, pairs.as_slice()),
+        Answer::Pair { status, key, value } => pair(alloc, *status, key, value),
+        Answer::Acl(row) => acl(alloc, row),
+        Answer::Order(row) => order(alloc, row, endpoint),
+        Answer::Container(view) => container(alloc, view, endpoint),
+        Answer::Quotas(row) => quotas(alloc, row),
+        Answer::ProjectQuotas(row) => project_quotas(alloc, row),
+        Answer::List {
+            path,
+            query,
+            rows,
+            total,
+        } => list(alloc, endpoint, path, query, rows, *total),
     }
 }

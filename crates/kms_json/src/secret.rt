@@ -1,126 +1,70 @@
 // Secrets as bodies.
-ghost use Rattle.std.specs.Prelude.{◌≡◌, Some, None, IfOk};
-ghost use Rattle.serde_json.specs.Data.{string};
-ghost use Rattle.serde_json.specs.View.{view};
-ghost use Rattle.serde_json.specs.Written.{compact_text};
+ghost use Rattle.std.specs.Prelude.{◌≡◌, None, IfOk};
+ghost use Rattle.serde_json.specs.View.{view, members_view};
 ghost use Rattle.kms_world.specs.Times.{IsTimely};
-ghost use Rattle.kms_text.specs.declared.link.Kind.TheVariants as kind;
-ghost use Rattle.kms_text.specs.Link.{link_of};
-ghost use Rattle.kms_json.specs.Secret.{media_of, content_types_data, secret_data};
-ghost use Rattle.kms_json.specs.SecretParts.{parts_data};
+ghost use Rattle.kms_json.specs.Secret.{content_types_data, secret_members, secret_data};
 
-use crate::values::{body_of, number_value, optional_time_value, text_value, time_value};
-use kms_text::{Kind, ref_text};
-use kms_world::{Bytes, Media, NoMemory, SecretRow};
-use serde_json::{Value, json};
-use std::alloc::{AllocError, Global};
+use crate::members::{put, put_optional_text, put_optional_time, put_text, put_time};
+use crate::values::{link_to, number_value, object_of};
+use kms_text::Kind;
+use kms_world::{Media, NoMemory, SecretRow};
+use serde_json::{Map, Value};
+use std::alloc::Global;
 
-// The status of each secret that is there.
-const ACTIVE: &str = "ACTIVE";
-
-// The values of a secret's members, but for the type of its payload.
-#[derive(Drop)]
-struct Parts {
-    algorithm: Value,
-    bit_length: Value,
-    created: Value,
-    creator_id: Value,
-    expiration: Value,
-    mode: Value,
-    name: Value,
-    secret_ref: Value,
-    secret_type: Value,
-    updated: Value,
-}
-
-fn secret_ref(alloc: Global, row: &SecretRow, endpoint: &str) -> Result<Value, NoMemory>
-    ensures { IfOk result
-        (λ value. view value ≡ string (link_of endpoint.now kind.Secret row.now.id)) }
-{
-    let link = ref_text(alloc, endpoint, Kind::Secret, row.id)?;
-    Ok(Value::try_from_str(alloc, link.as_str())?)
-}
-
-fn parts_of(alloc: Global, row: &SecretRow, endpoint: &str) -> Result<Parts, NoMemory>
+// The members of a secret without a payload.
+fn attributes(
+    alloc: Global,
+    row: &SecretRow,
+    endpoint: &str,
+) -> Result<Map<String, Value>, NoMemory>
     requires { IsTimely row.now }
     ensures { IfOk result
-        (λ parts. parts_data (media_of row.now) parts ≡ secret_data endpoint.now row.now) }
+        (λ members. members_view members.entries ≡ secret_members endpoint.now None row.now) }
 {
-    Ok(Parts {
-        algorithm: text_value(alloc, &row.algorithm)?,
-        bit_length: number_value(row.bit_length),
-        created: time_value(alloc, row.created)?,
-        creator_id: Value::try_from_str(alloc, row.creator.as_str())?,
-        expiration: optional_time_value(alloc, row.expiration)?,
-        mode: text_value(alloc, &row.mode)?,
-        name: text_value(alloc, &row.name)?,
-        secret_ref: secret_ref(alloc, row, endpoint)?,
-        secret_type: Value::try_from_str(alloc, row.kind.word())?,
-        updated: time_value(alloc, row.updated)?,
-    })
+    let mut members = Map::new(alloc);
+    put_optional_text(alloc, &mut members, "algorithm", &row.algorithm)?;
+    put(
+        alloc,
+        &mut members,
+        "bit_length",
+        number_value(row.bit_length),
+    )?;
+    put_time(alloc, &mut members, "created", row.created)?;
+    put_text(alloc, &mut members, "creator_id", row.creator.as_str())?;
+    put_optional_time(alloc, &mut members, "expiration", row.expiration)?;
+    put_optional_text(alloc, &mut members, "mode", &row.mode)?;
+    put_optional_text(alloc, &mut members, "name", &row.name)?;
+    let link = link_to(alloc, endpoint, Kind::Secret, row.id)?;
+    put(alloc, &mut members, "secret_ref", link)?;
+    put_text(alloc, &mut members, "secret_type", row.kind.word())?;
+    put_text(alloc, &mut members, "status", "ACTIVE")?;
+    put_time(alloc, &mut members, "updated", row.updated)?;
+    Ok(members)
 }
 
-fn without_payload(alloc: Global, parts: Parts) -> Result<Value, AllocError>
-    ensures { IfOk result (λ value. view value ≡ parts_data None parts) }
-{
-    json!(in alloc; {
-        "algorithm": parts.algorithm,
-        "bit_length": parts.bit_length,
-        "created": parts.created,
-        "creator_id": parts.creator_id,
-        "expiration": parts.expiration,
-        "mode": parts.mode,
-        "name": parts.name,
-        "secret_ref": parts.secret_ref,
-        "secret_type": parts.secret_type,
-        "status": ACTIVE,
-        "updated": parts.updated
-    })
-}
-
-fn content_types(alloc: Global, media: Media) -> Result<Value, AllocError>
+fn content_types(alloc: Global, media: Media) -> Result<Value, NoMemory>
     ensures { IfOk result (λ value. view value ≡ content_types_data media) }
 {
-    json!(in alloc; {"default": media.word()})
-}
-
-fn with_payload(alloc: Global, parts: Parts, media: Media) -> Result<Value, AllocError>
-    ensures { IfOk result (λ value. view value ≡ parts_data (Some media) parts) }
-{
-    let content_types = content_types(alloc, media)?;
-    json!(in alloc; {
-        "algorithm": parts.algorithm,
-        "bit_length": parts.bit_length,
-        "content_types": content_types,
-        "created": parts.created,
-        "creator_id": parts.creator_id,
-        "expiration": parts.expiration,
-        "mode": parts.mode,
-        "name": parts.name,
-        "secret_ref": parts.secret_ref,
-        "secret_type": parts.secret_type,
-        "status": ACTIVE,
-        "updated": parts.updated
-    })
-}
-
-fn secret_value(alloc: Global, row: &SecretRow, endpoint: &str) -> Result<Value, NoMemory>
-    requires { IsTimely row.now }
-    ensures { IfOk result (λ value. view value ≡ secret_data endpoint.now row.now) }
-{
-    let parts = parts_of(alloc, row, endpoint)?;
-    match &row.payload {
-        None => Ok(without_payload(alloc, parts)?),
-        Some(payload) => Ok(with_payload(alloc, parts, payload.media)?),
-    }
+    let word = Value::try_from_str(alloc, media.word())?;
+    object_of(alloc, "default", word)
 }
 
 // The object of a secret's attributes.
-#[tactic(auto, using(crate::proofs::Floats::no_float_secret))]
-pub(crate) fn secret_body(alloc: Global, row: &SecretRow, endpoint: &str) -> Result<Bytes, NoMemory>
+pub(crate) fn secret_value(
+    alloc: Global,
+    row: &SecretRow,
+    endpoint: &str,
+) -> Result<Value, NoMemory>
     requires { IsTimely row.now }
-    ensures { IfOk result (λ body. body ≡ compact_text (secret_data endpoint.now row.now)) }
+    ensures { IfOk result (λ value. view value ≡ secret_data endpoint.now row.now) }
 {
-    let value = secret_value(alloc, row, endpoint)?;
-    body_of(alloc, &value)
+    let mut members = attributes(alloc, row, endpoint)?;
+    match &row.payload {
+        None => Ok(Value::Object(members)),
+        Some(payload) => {
+            let types = content_types(alloc, payload.media)?;
+            put(alloc, &mut members, "content_types", types)?;
+            Ok(Value::Object(members))
+        }
+    }
 }

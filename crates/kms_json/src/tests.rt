@@ -1,13 +1,15 @@
-// What no clause says: that calls succeed. Bodies were worked out by hand or printed by Python's json module.
+// What no clause says: that calls succeed. Bodies of refusals and links were worked out by hand, the others are the table's.
 ghost use Rattle.std.specs.Prelude.{IfOk};
 ghost use Rattle.std.specs.Result.{ForOk};
-ghost use Rattle.kms_world.specs.Times.{HasTimes};
+ghost use Rattle.kms_world.specs.Times.{HasTimes, IsTimely, IsTimelyContainer, IsTimelyOrder};
 ghost use Rattle.kms_json.specs.Answer.{HasForm};
 
-use crate::answer;
+use crate::{answer, table};
 use kms_world::{
-    Action, Answer, Bytes, Field, Id, Link, Media, Name, NoMemory, Pairs, Payload, QuotaKind,
-    Refusal, Rule, SecretKind, SecretRow, Text, Why,
+    AclRow, Action, Answer, Bytes, Cause, ConsumerRow, ConsumerRows, ContainerKind, ContainerRow,
+    ContainerView, Field, Id, Link, Media, Media2, Members, Name, Names, NoMemory, OrderRow,
+    OrderState, Pairs, Payload, QuotaKind, QuotaRow, Refusal, Rule, SecretKind, SecretRow, Text,
+    Why,
 };
 use std::alloc::Global;
 use std::rt::HostRuntime;
@@ -15,6 +17,8 @@ use std::rt::HostRuntime;
 const ENDPOINT: &str = "http://k/v1";
 
 const FIRST: Id = Id(0x0123_4567_89ab_8cde_8000_0000_0000_0000);
+
+const SECOND: Id = Id(0x0123_4567_89ab_8cde_8000_0000_0000_0001);
 
 fn has_body(alloc: Global, given: &Answer, endpoint: &str, body: &str) -> bool
     requires times { HasTimes given.now }
@@ -95,11 +99,10 @@ fn links_are_shown(rt: HostRuntime) {
     assert!(rt; has_body(rt.alloc(), &Answer::Empty(204), ENDPOINT, ""));
 }
 
-fn plain_answer(alloc: Global, project: Name, creator: Name) -> Result<Answer, NoMemory>
-    ensures times { IfOk result (λ given. HasTimes given) }
-    ensures form { IfOk result (λ given. HasForm given) }
+pub(crate) fn plain(alloc: Global, project: Name, creator: Name) -> Result<SecretRow, NoMemory>
+    ensures { IfOk result (λ row. IsTimely row) }
 {
-    Ok(Answer::Secret(SecretRow {
+    Ok(SecretRow {
         id: FIRST,
         project,
         creator,
@@ -113,7 +116,14 @@ fn plain_answer(alloc: Global, project: Name, creator: Name) -> Result<Answer, N
         expiration: None,
         payload: None,
         metadata: Pairs::new(alloc),
-    }))
+    })
+}
+
+fn plain_answer(alloc: Global, project: Name, creator: Name) -> Result<Answer, NoMemory>
+    ensures times { IfOk result (λ given. HasTimes given) }
+    ensures form { IfOk result (λ given. HasForm given) }
+{
+    Ok(Answer::Secret(plain(alloc, project, creator)?))
 }
 
 fn full_answer(alloc: Global, project: Name, creator: Name) -> Result<Answer, NoMemory>
@@ -140,7 +150,7 @@ fn full_answer(alloc: Global, project: Name, creator: Name) -> Result<Answer, No
     }))
 }
 
-fn is_shown(alloc: Global, given: Result<Answer, NoMemory>, body: &str) -> bool
+pub(crate) fn is_shown(alloc: Global, given: Result<Answer, NoMemory>, body: &str) -> bool
     requires times { ForOk given (λ shown. HasTimes shown) }
     requires form { ForOk given (λ shown. HasForm shown) }
 {
@@ -150,24 +160,259 @@ fn is_shown(alloc: Global, given: Result<Answer, NoMemory>, body: &str) -> bool
     }
 }
 
+fn pairs(alloc: Global) -> Result<Pairs, NoMemory> {
+    let mut pairs = Pairs::new(alloc);
+    pairs.push((Text::of(alloc, "a")?, Text::of(alloc, "q\"")?))?;
+    pairs.push((Text::of(alloc, "b.c")?, Text::of(alloc, "é\n")?))?;
+    Ok(pairs)
+}
+
+fn metadata_answer(alloc: Global) -> Result<Answer, NoMemory>
+    ensures times { IfOk result (λ given. HasTimes given) }
+    ensures form { IfOk result (λ given. HasForm given) }
+{
+    Ok(Answer::Metadata(pairs(alloc)?))
+}
+
+fn pair_answer(alloc: Global) -> Result<Answer, NoMemory>
+    ensures times { IfOk result (λ given. HasTimes given) }
+    ensures form { IfOk result (λ given. HasForm given) }
+{
+    Ok(Answer::Pair {
+        status: 201,
+        key: Text::of(alloc, "a")?,
+        value: Text::of(alloc, "\t")?,
+    })
+}
+
+fn acl_answer(alloc: Global, user: Name) -> Result<Answer, NoMemory>
+    ensures times { IfOk result (λ given. HasTimes given) }
+    ensures form { IfOk result (λ given. HasForm given) }
+{
+    let mut users = Names::new(alloc);
+    users.push(user)?;
+    Ok(Answer::Acl(Some(AclRow {
+        target: FIRST,
+        project_access: false,
+        users,
+        created: 499_162_800,
+        updated: 499_162_801,
+    })))
+}
+
+pub(crate) fn order(
+    alloc: Global,
+    project: Name,
+    creator: Name,
+    state: OrderState,
+) -> Result<OrderRow, NoMemory>
+    ensures { IfOk result (λ row. IsTimelyOrder row) }
+{
+    Ok(OrderRow {
+        id: FIRST,
+        project,
+        creator,
+        created: 499_162_800,
+        updated: 499_162_801,
+        algorithm: Text::of(alloc, "aes")?,
+        bit_length: 256,
+        mode: Some(Text::of(alloc, "cbc")?),
+        name: None,
+        expiration: None,
+        state,
+    })
+}
+
+fn order_answer(
+    alloc: Global,
+    project: Name,
+    creator: Name,
+    state: OrderState,
+) -> Result<Answer, NoMemory>
+    ensures times { IfOk result (λ given. HasTimes given) }
+    ensures form { IfOk result (λ given. HasForm given) }
+{
+    Ok(Answer::Order(order(alloc, project, creator, state)?))
+}
+
+pub(crate) fn consumers(alloc: Global) -> Result<ConsumerRows, NoMemory> {
+    let mut rows = ConsumerRows::new(alloc);
+    rows.push(ConsumerRow {
+        container: SECOND,
+        name: Text::of(alloc, "né")?,
+        url: Text::of(alloc, "u\"\\\n\u{1}\u{7f}")?,
+        created: 499_162_800,
+    })?;
+    Ok(rows)
+}
+
+fn members(alloc: Global) -> Result<Members, NoMemory> {
+    let mut members = Members::new(alloc);
+    members.push((Some(Text::of(alloc, "private_key")?), FIRST))?;
+    members.push((None, SECOND))?;
+    Ok(members)
+}
+
+fn container(
+    alloc: Global,
+    project: Name,
+    creator: Name,
+    name: Option<Text>,
+    secrets: Members,
+    consumers: ConsumerRows,
+) -> ContainerView
+    ensures { IsTimelyContainer result.row }
+{
+    let _ = alloc;
+    ContainerView {
+        row: ContainerRow {
+            id: SECOND,
+            project,
+            creator,
+            created: 499_162_800,
+            updated: 499_162_801,
+            name,
+            kind: ContainerKind::Rsa,
+            secrets,
+        },
+        consumers,
+    }
+}
+
+pub(crate) fn empty_container(
+    alloc: Global,
+    project: Name,
+    creator: Name,
+) -> Result<ContainerView, NoMemory>
+    ensures { IfOk result (λ view. IsTimelyContainer view.row) }
+{
+    let name = Text::of(alloc, "c")?;
+    Ok(container(
+        alloc,
+        project,
+        creator,
+        Some(name),
+        Members::new(alloc),
+        ConsumerRows::new(alloc),
+    ))
+}
+
+fn full_container(alloc: Global, project: Name, creator: Name) -> Result<Answer, NoMemory>
+    ensures times { IfOk result (λ given. HasTimes given) }
+    ensures form { IfOk result (λ given. HasForm given) }
+{
+    let members = members(alloc)?;
+    let consumers = consumers(alloc)?;
+    Ok(Answer::Container(container(alloc, project, creator, None, members, consumers)))
+}
+
+fn container_answer(alloc: Global, project: Name, creator: Name) -> Result<Answer, NoMemory>
+    ensures times { IfOk result (λ given. HasTimes given) }
+    ensures form { IfOk result (λ given. HasForm given) }
+{
+    Ok(Answer::Container(empty_container(alloc, project, creator)?))
+}
+
+pub(crate) fn limits(project: Name) -> QuotaRow {
+    QuotaRow {
+        project,
+        secrets: None,
+        orders: Some(-1),
+        containers: None,
+        consumers: Some(7),
+    }
+}
+
+fn quotas(project: Name) -> QuotaRow {
+    QuotaRow {
+        project,
+        secrets: Some(-1),
+        orders: Some(0),
+        containers: Some(1_000_000_000),
+        consumers: Some(5),
+    }
+}
+
+fn payload_is_the_body(alloc: Global) -> Result<bool, NoMemory> {
+    let given = Answer::Payload(Payload {
+        media: Media::TextPlain,
+        bytes: Bytes::of(alloc, b"p\0\xff")?,
+    });
+    let reply = answer(alloc, &given, ENDPOINT)?;
+    Ok(reply.media == Some(Media2::TextPlain) && reply.body.as_slice() == b"p\0\xff".as_slice())
+}
+
 #[test]
-fn secrets_are_shown(rt: HostRuntime) {
+fn answers_are_shown(rt: HostRuntime) {
+    let alloc = rt.alloc();
     let project = Name::read(b"p1").expect(&rt, "a name");
-    let creator = Name::read(b"u1").expect(&rt, "a name");
-    let plain = plain_answer(rt.alloc(), project, creator);
+    let user = Name::read(b"u1").expect(&rt, "a name");
     assert!(rt;
         is_shown(
-            rt.alloc(),
-            plain,
-            "{\"algorithm\":null,\"bit_length\":null,\"created\":\"1985-10-26T08:20:00\",\"creator_id\":\"u1\",\"expiration\":null,\"mode\":null,\"name\":\"a\",\"secret_ref\":\"http://k/v1/secrets/01234567-89ab-8cde-8000-000000000000\",\"secret_type\":\"opaque\",\"status\":\"ACTIVE\",\"updated\":\"1985-10-26T08:20:00\"}",
+            alloc,
+            plain_answer(alloc, project, user),
+            table::PLAIN_SECRET
         )
     );
-    let full = full_answer(rt.alloc(), project, creator);
+    assert!(rt; is_shown(alloc, full_answer(alloc, project, user), table::FULL_SECRET));
+    assert!(rt; is_shown(alloc, metadata_answer(alloc), table::METADATA));
+    assert!(rt;
+        has_body(
+            alloc,
+            &Answer::Metadata(Pairs::new(alloc)),
+            ENDPOINT,
+            table::NO_METADATA
+        )
+    );
+    assert!(rt; is_shown(alloc, pair_answer(alloc), table::PAIR));
+    assert!(rt; has_body(alloc, &Answer::Acl(None), ENDPOINT, table::NO_ACL));
+    assert!(rt; is_shown(alloc, acl_answer(alloc, user), table::ACL));
+    assert!(rt;
+        has_body(
+            alloc,
+            &Answer::Quotas(quotas(project)),
+            ENDPOINT,
+            table::QUOTAS
+        )
+    );
+    assert!(rt;
+        has_body(
+            alloc,
+            &Answer::ProjectQuotas(limits(project)),
+            ENDPOINT,
+            table::PROJECT_QUOTAS
+        )
+    );
+    assert!(rt; payload_is_the_body(alloc) == Ok(true));
+}
+
+#[test]
+fn orders_and_containers_are_shown(rt: HostRuntime) {
+    let alloc = rt.alloc();
+    let project = Name::read(b"p1").expect(&rt, "a name");
+    let user = Name::read(b"u1").expect(&rt, "a name");
+    let table = [
+        (OrderState::Pending, table::PENDING),
+        (OrderState::Active(SECOND), table::ACTIVE),
+        (OrderState::Error(Cause::Unsupported), table::UNSUPPORTED),
+        (OrderState::Error(Cause::QuotaReached), table::NO_QUOTA),
+        (OrderState::Error(Cause::IdsSpent), table::NO_IDS),
+    ];
+    for (state, body) in table {
+        assert!(rt; is_shown(alloc, order_answer(alloc, project, user, state), body));
+    }
     assert!(rt;
         is_shown(
-            rt.alloc(),
-            full,
-            "{\"algorithm\":\"aes\",\"bit_length\":256,\"content_types\":{\"default\":\"application/octet-stream\"},\"created\":\"1985-10-26T08:20:00\",\"creator_id\":\"u1\",\"expiration\":\"9999-12-31T23:59:59\",\"mode\":\"cbc\",\"name\":null,\"secret_ref\":\"http://k/v1/secrets/01234567-89ab-8cde-8000-000000000000\",\"secret_type\":\"symmetric\",\"status\":\"ACTIVE\",\"updated\":\"1985-10-26T08:20:01\"}",
+            alloc,
+            container_answer(alloc, project, user),
+            table::EMPTY_CONTAINER
+        )
+    );
+    assert!(rt;
+        is_shown(
+            alloc,
+            full_container(alloc, project, user),
+            table::FULL_CONTAINER
         )
     );
 }
