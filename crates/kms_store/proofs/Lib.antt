@@ -1,3 +1,5 @@
+pub mod ConsumerLaws
+pub mod CountLaws
 pub mod DamageLaws
 pub mod EditLaws
 pub mod KeysLaws
@@ -8,3 +10,5 @@ pub mod StagedLaws
 pub mod StandsLaws
 pub mod TableLaws
 pub mod TablesLaws
+pub mod TalliedLaws
+pub mod TallyLaws

@@ -1,3 +1,4 @@
+pub mod Counts
 pub mod KeptSecret
 pub mod KeptSecretFields
 pub mod Keys
@@ -18,3 +19,4 @@ pub mod StoreFields
 pub mod Table
 pub mod Tables
 pub mod TablesFields
+pub mod Tally

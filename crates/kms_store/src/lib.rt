@@ -3,6 +3,7 @@
 
 mod applies;
 mod apply;
+mod counts;
 mod edits;
 mod kept_secret;
 mod keys;
@@ -18,6 +19,7 @@ mod staged;
 mod store;
 mod table;
 mod tables;
+mod tally;
 #[cfg(test)]
 mod tests;
 

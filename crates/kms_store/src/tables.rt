@@ -5,12 +5,16 @@ ghost use Rattle.kms_world.specs.LookUp.{secret_of, container_of, order_of, acl_
 ghost use Rattle.kms_record.specs.Grammar.{IsChange, IsChangeInRange};
 ghost use Rattle.kms_kept.specs.Kept.{after_step, applies, changed, key_of, kept_first};
 ghost use Rattle.kms_kept.specs.Sound.{IsSound};
+ghost use Rattle.kms_store.specs.Counts.{count_of};
 ghost use Rattle.kms_store.specs.Part.{part_of, IsFit};
 
+use crate::counts::Counts;
 use crate::rows::Rows;
 use crate::{KeptSecret, Part, Ready, ReadyStep};
 use kms_record::{Change, Step, WrappedKey};
-use kms_world::{AclRow, ConsumerRow, ContainerRow, Id, Name, NoMemory, OrderRow, QuotaRow};
+use kms_world::{
+    AclRow, ConsumerRow, ContainerRow, Id, Name, NoMemory, OrderRow, QuotaKind, QuotaRow,
+};
 use std::alloc::Global;
 use std::marker::Model;
 
@@ -20,6 +24,7 @@ use std::marker::Model;
 pub struct Tables {
     alloc: Global,
     rows: Rows,
+    counts: Counts,
     spare: usize,
 }
 
@@ -45,6 +50,7 @@ impl Tables {
         Tables {
             alloc,
             rows: Rows::first(alloc, tag, ids),
+            counts: Counts::first(alloc),
             spare: 0,
         }
     }
@@ -64,6 +70,7 @@ impl Tables {
     {
         if self.spare < changes {
             self.rows.reserve(changes)?;
+            self.counts.reserve(changes)?;
             self.spare = changes;
         }
         Ok(())
@@ -89,6 +96,7 @@ impl Tables {
         ensures spare { self.new.spare + 1 ≡ self.old.spare }
     {
         self.spare -= 1;
+        self.counts.count_prepared(&self.rows, &ready.prepared);
         self.rows.apply_prepared(ready.prepared);
     }
 
@@ -160,6 +168,14 @@ impl Tables {
         ensures { option_copied result ≡ key_of project.now number self.now.kept.keys }
     {
         self.rows.key(project, number)
+    }
+
+    /// How many rows of this kind a project has: secrets, containers and orders of its own, and the consumers of its
+    /// containers.
+    pub fn count(&self, project: &Name, kind: QuotaKind) -> u64
+        ensures { result ≡ count_of kind project.now self.now.kept.state }
+    {
+        self.counts.of(&self.rows, project, kind) as u64
     }
 
     /// The tag of the store's ids, below 2^60.

@@ -4,12 +4,12 @@ ghost use Rattle.kms_record.specs.Grammar.{AreSteps, IsStep};
 mod changes;
 mod settling;
 
-use crate::tests::changes::{AGAIN, ALONE, CHANGES, COUNTS, SECRETS, SNAPSHOT};
+use crate::tests::changes::{AGAIN, ALONE, CHANGES, COUNTS, PROJECTS, SECRETS, SNAPSHOT};
 use crate::{LoadFault, Part, Tables, load};
 use kms_host::{Bytes, NoMemory};
 use kms_journal::{Bodies, Chain};
 use kms_record::{Step, Steps, decode_body};
-use kms_world::{Id, Name, OrderState};
+use kms_world::{Id, Name, OrderState, QuotaKind};
 use std::alloc::Global;
 use std::rt::HostRuntime;
 use std::test::Fail;
@@ -300,6 +300,66 @@ fn applied_record(alloc: Global, tables: &mut Tables, change: &str) -> Result<bo
     }
 }
 
+// How many rows of a kind a project has, by a walk.
+fn walked(tables: &Tables, project: &Name, kind: QuotaKind) -> usize {
+    match kind {
+        QuotaKind::Secrets => {
+            let secrets = tables.secrets().iter();
+            secrets.filter(|row| row.row().project == *project).count()
+        }
+        QuotaKind::Orders => {
+            let orders = tables.orders().iter();
+            orders.filter(|row| row.project == *project).count()
+        }
+        QuotaKind::Containers => {
+            let containers = tables.containers().iter();
+            containers.filter(|row| row.project == *project).count()
+        }
+        QuotaKind::Consumers => {
+            let consumers = tables.consumers().iter();
+            consumers
+                .filter(|row| match tables.container(row.container) {
+                    Some(container) => container.project == *project,
+                    None => false,
+                })
+                .count()
+        }
+    }
+}
+
+const KINDS: [QuotaKind; 4] = [
+    QuotaKind::Secrets,
+    QuotaKind::Orders,
+    QuotaKind::Containers,
+    QuotaKind::Consumers,
+];
+
+// All counts of these projects are as by a walk, and some rows are counted.
+fn are_counted(tables: &Tables, projects: &[&str]) -> Option<usize> {
+    let mut all = 0usize;
+    for name in projects {
+        let project = Name::read(name.as_bytes())?;
+        for kind in KINDS {
+            let count = tables.count(&project, kind);
+            if count != walked(tables, &project, kind) as u64 {
+                return None;
+            }
+            all = all.saturating_add(count as usize);
+        }
+    }
+    Some(all)
+}
+
+// How many secrets, containers, orders and consumers there are.
+fn all_counted(tables: &Tables) -> usize {
+    let own = tables
+        .secrets()
+        .len()
+        .saturating_add(tables.containers().len());
+    own.saturating_add(tables.orders().len())
+        .saturating_add(tables.consumers().len())
+}
+
 #[test]
 fn steps_are_made_ready_and_applied(rt: HostRuntime) -> Result<(), Fail> {
     let alloc = rt.alloc();
@@ -307,6 +367,24 @@ fn steps_are_made_ready_and_applied(rt: HostRuntime) -> Result<(), Fail> {
     for (n, change) in CHANGES.iter().enumerate() {
         assert!(rt; applied_record(alloc, &mut tables, change)?);
         assert_eq!(rt; counts(&tables), COUNTS[n + 1]);
+        assert_eq!(rt;
+            are_counted(&tables, &["p0", "p1", "p2"]),
+            Some(all_counted(&tables))
+        );
+    }
+    Ok(())
+}
+
+#[test]
+fn rows_are_counted_by_project(rt: HostRuntime) -> Result<(), Fail> {
+    let alloc = rt.alloc();
+    let mut tables = Tables::first(alloc, TAG, 0);
+    for change in PROJECTS {
+        assert!(rt; applied_record(alloc, &mut tables, change)?);
+        assert_eq!(rt;
+            are_counted(&tables, &["p0", "p1", "p2"]),
+            Some(all_counted(&tables))
+        );
     }
     Ok(())
 }
