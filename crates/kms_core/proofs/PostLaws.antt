@@ -19,6 +19,7 @@ use Rattle.kms_record.proofs.SizeLaws.{step_is_short_lem}
 use Rattle.kms_kept.specs.Kept.{Kept, after_step, changed}
 use Rattle.kms_store.specs.ReadyStep.{TaggedStep}
 use Rattle.kms_store.specs.Store.{IsReserved}
+use Rattle.kms_core.specs.Stands.{kept_as}
 use Rattle.kms_core.specs.Steps.{Held, LeadsTo}
 
 eqb_same : (n : ℕ) → (n == n) ≡ true
@@ -76,6 +77,6 @@ leads_by (Ok r) after kept seen put step is range new same held changes reserved
       kept = changed (SecretPut put) kept;
       leads = ap (λ (s : List Change). after_step s after.store.stored.kept) one ∙ ap (after_step (SecretPut put ∷ [])) held
           ∙ put_leads kept put (new ∙ ap (λ (s : State). s.ids) (sym same)) (subst (λ (n : ℕ). n < 2 ^ 62) (new ∙ ap (λ (s : State). s.ids) (sym same)) range.id);
-      is = ap (λ (s : State). after_effect (effects.SecretPut (row_of s.tag put)) s) same;
+      is = ap (λ (s : State). kept_as kept.keys (after_effect (effects.SecretPut (row_of s.tag put)) s)) same ∙ ap (λ (k : Kept). kept_as k.keys (after_effect (effects.SecretPut (row_of seen.tag put)) seen)) (sym held);
     }
 leads_by (Err e) after kept seen put step is range new same held changes reserved = tt

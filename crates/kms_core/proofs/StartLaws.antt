@@ -132,13 +132,12 @@ module _ (p : Position) (was mid now : History) (o : OpensJournal (Ok p) was mid
         subst (λ (x : Held). Starts (Ok x) was now) (sym is) (record {
           throughout = during g.throughout;
           answer = (
+            store.kept.keys,
             steps.0,
-            record { kept = store.kept; is = refl; files = record { standing = s; current = o.answer.1; keeps = keeps; counted = steps.1 } },
+            record { standing = s; current = o.answer.1; keeps = keeps; counted = steps.1 },
             record {
               idle = record { count = ap (λ (st : Staging). st.count) none; steps = ap (λ (st : Staging). st.steps) none };
               opened = record {
-                kept = store.kept;
-                settled = refl;
                 opened = record { standing = s; placed = now_placed; keeps = keeps; counted = steps.1; leads = subst (λ (st : Staging). StagingLeads st store.kept store.kept) (sym none) (nothing_leads store.kept) };
                 now = refl;
               };

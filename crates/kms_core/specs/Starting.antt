@@ -1,5 +1,5 @@
 -- What starting over a store answers, and does to it.
-use Rattle.std.specs.Prelude.{◌≡◌, ℕ, Some, None, Result, Ok, Err, Bool, true, false}
+use Rattle.std.specs.Prelude.{◌≡◌, ℕ, List, Some, None, Result, Ok, Err, Bool, true, false}
 use Rattle.kms_host.specs.Disk.{files}
 use Rattle.kms_host.specs.History.{History}
 use Rattle.kms_host.specs.Moment.{Throughout}
@@ -9,6 +9,7 @@ use Rattle.kms_journal.specs.Recovery.{KeepsStanding}
 use Rattle.kms_journal.specs.Standing.{Standing, standing_of}
 use Rattle.kms_journal.specs.declared.fault.Place.TheVariants.{Body}
 use Rattle.kms_world.specs.State.{State}
+use Rattle.kms_record.specs.declared.key.WrappedKey.{WrappedKey}
 use Rattle.kms_store.specs.Stands.{IsDamagedAt}
 use Rattle.kms_core.specs.Stands.{Stands}
 use Rattle.kms_core.specs.Steps.{Held, IsSettled}
@@ -34,8 +35,8 @@ IsRefusal NoMemory was = Unit {0}
 -- An engine has the state for which the files stood at first, with its journal at the store's end, and no step waits. Nothing
 -- is pending on the current file, whatever was pending before.
 abbrev pub IsStart : Result Held StartFault → History → History → Type 0
-IsStart (Ok engine) was now = (steps : ℕ) × Stands (files was) engine.state steps
-    × IsSettled engine steps now
+IsStart (Ok engine) was now = (keys : List WrappedKey) × (steps : ℕ) × Stands keys (files was) engine.state steps
+    × IsSettled keys engine steps now
     × (IsQuietStore was → IsQuietStore now)
     × IsQuiet engine.store.journal.file now
 IsStart (Err fault) was now = IsRefusal fault was

@@ -1,5 +1,5 @@
 // The engine and its calls.
-ghost use Rattle.std.specs.Prelude.{◌≡◌, ℕ, ◌<◌, ◌^◌, IfOk, Some, Ok, is_some, is_err, OnOk, OnErr};
+ghost use Rattle.std.specs.Prelude.{◌≡◌, ℕ, ◌<◌, ◌^◌, List, IfOk, Some, Ok, is_some, is_err, OnOk, OnErr};
 ghost use Rattle.kms_world.specs.State.{State};
 ghost use Rattle.kms_world.specs.Times.{HasTimes};
 ghost use Rattle.kms_model.specs.Ask.{answer_to, state_after, stores};
@@ -9,6 +9,7 @@ ghost use Rattle.kms_host.specs.declared.call.Count.TheVariants as counts;
 ghost use Rattle.kms_journal.specs.Fault.{Fails};
 ghost use Rattle.kms_journal.specs.Position.{IsPlaced};
 ghost use Rattle.kms_journal.specs.Standing.{Standing};
+ghost use Rattle.kms_record.specs.declared.key.WrappedKey.{WrappedKey};
 ghost use Rattle.kms_core.specs.Settling.{IsOpened, Settles, count_of, with_failed};
 ghost use Rattle.kms_core.specs.Steps.{LeadsTo, Prepares, KeepsTheSame, Waits, IsIdle, IsWorking};
 
@@ -88,9 +89,9 @@ impl Engine {
     pub fn settle<H: Host>(&mut self, host: &mut H) -> Result<(), StoreFault>
         requires working { IsWorking self.old }
         requires placed { 0 < count_of self.old.store → WhereTold (H.history host.old) (λ h. (s : Standing) × IsPlaced self.old.store.journal h s) }
-        ensures told { Tells (H.history host.old) (H.history host.new) (λ was now. (settled : State) (steps : ℕ)
-            → IsOpened self.old.store was settled steps self.old.state
-            → Settles self.new.store result settled steps self.old.state (count_of self.old.store) was now) }
+        ensures told { Tells (H.history host.old) (H.history host.new) (λ was now. (keys : List WrappedKey) (settled : State) (steps : ℕ)
+            → IsOpened keys self.old.store was settled steps self.old.state
+            → Settles keys self.new.store result settled steps self.old.state (count_of self.old.store) was now) }
         ensures same { self.new.state ≡ self.old.state }
         ensures ok { OnOk result (IsIdle self.new) }
         ensures working { OnOk result (IsWorking self.new) }

@@ -14,6 +14,7 @@ use Rattle.kms_journal.specs.Standing.{standing_of}
 use Rattle.kms_journal.proofs.OpeningLaws.{untouched_keeps}
 use Rattle.kms_journal.proofs.ReadingLaws.{untouched}
 use Rattle.kms_world.specs.State.{State}
+use Rattle.kms_record.specs.declared.key.WrappedKey.{WrappedKey}
 use Rattle.kms_core.specs.Stands.{Stands}
 use Rattle.kms_core.specs.Steps.{Held, IsSettled}
 use Rattle.kms_model.specs.declared.event.Mark.{Mark}
@@ -97,7 +98,7 @@ same_files was now same =
     ap (λ (l : List ℕ). let x : List ℕ × List ℕ = (l, reads 1 now) in x) (same_reads was now same 0)
     ∙ ap (λ (l : List ℕ). let x : List ℕ × List ℕ = (reads 0 was, l) in x) (same_reads was now same 1)
 
-pub settled_same : (engine : Held) (n : ℕ) (was now : History) → Same was now → IsSettled engine n was → IsSettled engine n now
+pub settled_same : {keys : List WrappedKey} (engine : Held) (n : ℕ) (was now : History) → Same was now → IsSettled keys engine n was → IsSettled keys engine n now
 settled_same engine n was now same s =
     let k = s.opened in
     let o = k.opened in
@@ -106,8 +107,6 @@ settled_same engine n was now same s =
     record {
       idle = s.idle;
       opened = record {
-        kept = k.kept;
-        settled = k.settled;
         opened = record {
           standing = o.standing;
           placed = record {
@@ -128,27 +127,26 @@ settled_same engine n was now same s =
     }
 
 -- what a store stands for that is settled
-pub settled_stands : (engine : Held) (n : ℕ) (h : History) → IsSettled engine n h → Stands (files h) engine.state n
+pub settled_stands : {keys : List WrappedKey} (engine : Held) (n : ℕ) (h : History) → IsSettled keys engine n h → Stands keys (files h) engine.state n
 settled_stands engine n h s =
     let o = s.opened.opened in
-    record { kept = s.opened.kept; is = s.opened.settled; files = record { standing = o.standing; current = o.placed.current; keeps = o.keeps; counted = o.counted } }
+    record { standing = o.standing; current = o.placed.current; keeps = o.keeps; counted = o.counted }
 
-pub stands_by : (two others : List ℕ × List ℕ) (state : State) (n : ℕ) → standing_of two ≡ standing_of others → Stands others state n → Stands two state n
+pub stands_by : {keys : List WrappedKey} (two others : List ℕ × List ℕ) (state : State) (n : ℕ) → standing_of two ≡ standing_of others → Stands keys others state n → Stands keys two state n
 stands_by two others state n same s =
-    let f = s.files in
-    record { kept = s.kept; is = s.is; files = record { standing = f.standing; current = same ∙ f.current; keeps = f.keeps; counted = f.counted } }
+    record { standing = s.standing; current = same ∙ s.current; keeps = s.keeps; counted = s.counted }
 
 pub quiet_image : (h : History) (image : List ℕ × List ℕ) → IsQuietStore h → IsImage h image → standing_of image ≡ standing_of (files h)
 quiet_image h image quiet is = (untouched_keeps h h (untouched h)).images quiet image is
 
-pub stands_as : (two : List ℕ × List ℕ) (s t : State) (m n : ℕ) → s ≡ t → m ≡ n → Stands two s m → Stands two t n
-stands_as two s t m n state steps p = subst (λ (k : ℕ). Stands two t k) steps (subst (λ (x : State). Stands two x m) state p)
+pub stands_as : {keys : List WrappedKey} (two : List ℕ × List ℕ) (s t : State) (m n : ℕ) → s ≡ t → m ≡ n → Stands keys two s m → Stands keys two t n
+stands_as {keys} two s t m n state steps p = subst (λ (k : ℕ). Stands keys two t k) steps (subst (λ (x : State). Stands keys two x m) state p)
 
 -- The files have at least the steps of all events that are answered.
 pub record Keeps (b : RunStart) (marks : List Mark) (calls : List Call) (image : List ℕ × List ℕ) : Type 0 where
   pub count : ℕ
   pub within : count ≤ length (events calls)
-  pub stands : Stands image (state_by b.first (take count (events calls)) marks) (b.steps + steps_by b.first (take count (events calls)) marks)
+  pub stands : Stands b.keys image (state_by b.first (take count (events calls)) marks) (b.steps + steps_by b.first (take count (events calls)) marks)
   pub all : steps_by b.first (answered_of (store_failed calls) (events calls)) marks ≤ steps_by b.first (take count (events calls)) marks
 
 pub holds : (endpoint : List ℕ) (b : RunStart) (marks : List Mark) (calls : List Call) (image : List ℕ × List ℕ) → Keeps b marks calls image → Holds endpoint b marks calls image
@@ -179,12 +177,12 @@ keep_on b marks was now same failed calls keep = λ quiet image is.
 
 -- where all is settled
 pub settled_keep : (b : RunStart) (marks : List Mark) (engine : Held) (calls : List Call) → (IsQuietStore b.was → IsQuietStore (history b calls)) → store_failed calls ≡ false
-    → engine.state ≡ state_by b.first (events calls) marks → IsSettled engine (b.steps + steps_by b.first (events calls) marks) (history b calls) → AllKeep b marks calls
+    → engine.state ≡ state_by b.first (events calls) marks → IsSettled b.keys engine (b.steps + steps_by b.first (events calls) marks) (history b calls) → AllKeep b marks calls
 settled_keep b marks engine calls quiet unfailed state settled = λ was_quiet image is.
     let h = history b calls in
     let es = events calls in
     let whole : take (length es) es ≡ es = take_all (length es) es (omega arith) in
-    let here : Stands image engine.state (b.steps + steps_by b.first es marks) =
+    let here : Stands b.keys image engine.state (b.steps + steps_by b.first es marks) =
     stands_by image (files h) engine.state (b.steps + steps_by b.first es marks) (quiet_image h image (quiet was_quiet) is) (settled_stands engine (b.steps + steps_by b.first es marks) h settled) in
     record {
       count = length es;
@@ -241,7 +239,7 @@ module _ (endpoint : List ℕ) (b : RunStart) (es : List LineEvent) (ms : List M
       rw (before_newest-more es e) (omega (arith, few, steps-front b.first es marks (k + 1)))
 
   pub holds_settling : ((line : ℕ) → sent line calls ≡ replies line endpoint b.first es ms)
-      → Stands image (state_by b.first es ms) (b.steps + steps_by b.first es ms) ⊎ Stands image (state_by b.first (es ++ e ∷ []) marks) (b.steps + steps_by b.first (es ++ e ∷ []) marks)
+      → Stands b.keys image (state_by b.first es ms) (b.steps + steps_by b.first es ms) ⊎ Stands b.keys image (state_by b.first (es ++ e ∷ []) marks) (b.steps + steps_by b.first (es ++ e ∷ []) marks)
       → Holds endpoint b marks calls image
   holds_settling given (inl before) =
       let state : state_by b.first es marks ≡ state_by b.first es ms = state_by-marks b.first es ms (m ∷ []) (omega (arith, marked)) in
@@ -264,7 +262,7 @@ module _ (endpoint : List ℕ) (b : RunStart) (es : List LineEvent) (ms : List M
 
   -- where the settling failed
   pub keeps_faulted : store_failed calls ≡ true
-      → Stands image (state_by b.first es ms) (b.steps + steps_by b.first es ms) ⊎ Stands image (state_by b.first (es ++ e ∷ []) marks) (b.steps + steps_by b.first (es ++ e ∷ []) marks)
+      → Stands b.keys image (state_by b.first es ms) (b.steps + steps_by b.first es ms) ⊎ Stands b.keys image (state_by b.first (es ++ e ∷ []) marks) (b.steps + steps_by b.first (es ++ e ∷ []) marks)
       → Keeps b marks calls image
   keeps_faulted failed (inl before) =
       let state : state_by b.first es marks ≡ state_by b.first es ms = state_by-marks b.first es ms (m ∷ []) (omega (arith, marked)) in

@@ -15,7 +15,7 @@ use Rattle.kms_host.specs.declared.call.Purpose.TheVariants.{Tag}
 use Rattle.kms_host.proofs.DiskLaws.{only_image}
 use Rattle.kms_host.proofs.Moments.{then_calls-append, then_calls-calls, since_told, since_since, since_weaker, since_call, at_map, at_both, at_more, at_now}
 use Rattle.kms_journal.specs.Answers.{Looks}
-use Rattle.kms_journal.specs.Create.{Creates, IsCreation, IsNoneOrFresh, fresh}
+use Rattle.kms_journal.specs.Create.{Creates, IsCreation, IsNoneOrFresh, fresh, fresh_rest}
 use Rattle.kms_journal.specs.Device.{IsQuiet, IsQuietStore, IsUntouched}
 use Rattle.kms_journal.specs.Fault.{Fails, is_failed_creation}
 use Rattle.kms_journal.specs.Standing.{standing, standing_of, newer}
@@ -286,6 +286,7 @@ creation_ends store tag was x y (Ok done) low ready made alone fails =
       drawn = apart_more (then_calls was x) y x alone ∙ r.apart_is;
       fresh = subst (λ (h : History). IsFreshStore (files h) (tag_of ready.bytes)) (sym now)
           (subst (IsFreshStore (files (then_calls (then_calls was x) y))) ready.tag_is (fresh_stands _ tag low made.1.current));
+      whole = ap (reads 0) now ∙ made.2 ∙ ap (λ (n : ℕ). 1 ∷ fresh_rest n) ready.tag_is;
       quiet = quiet_now;
       rests = subst (IsQuiet 0) (sym now) made.4;
       images = λ quiet image is.

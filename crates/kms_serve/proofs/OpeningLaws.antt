@@ -14,6 +14,7 @@ use Rattle.kms_journal.specs.Device.{IsQuietStore}
 use Rattle.kms_journal.specs.Fault.{Fails}
 use Rattle.kms_journal.specs.Recovery.{KeepsStanding}
 use Rattle.kms_world.specs.State.{State}
+use Rattle.kms_record.specs.declared.key.WrappedKey.{WrappedKey}
 use Rattle.kms_core.specs.Stands.{Stands}
 use Rattle.kms_core.specs.Starting.{Starts, IsStart, is_failed_start}
 use Rattle.kms_core.specs.Steps.{Held, IsSettled}
@@ -126,7 +127,7 @@ module _ (store : List ℕ) (was now : History) where
         opened_now t,
         record {
           opening = opening_of t false fails;
-          start = subst (IsStart (Ok engine) was) (opened_now t) (a.0, a.1, a.2, λ quiet. a.3 (quiet_mid quiet), a.4);
+          start = subst (IsStart (Ok engine) was) (opened_now t) (a.0, a.1, a.2, a.3, λ quiet. a.4 (quiet_mid quiet), a.5);
           unfailed = failed_then t.more false t.extends fails;
         },
       )
@@ -139,8 +140,9 @@ module _ (store : List ℕ) (was now : History) where
       ap (is_shut 0) (then_calls-calls mid t.more) ∙ same_by_files (is_shut 0) (λ file c calls. refl) t.more mid.calls only in
       record {
         unshut = subst (IsOpen 0) (sym t.extends) (record { came = omega arith; not_shut = here ∙ unshut.not_shut });
-        steps = starts.answer.0;
-        settled = starts.answer.2;
+        keys = starts.answer.0;
+        steps = starts.answer.1;
+        settled = starts.answer.3;
       }
 
 some_calls : List ℕ → Result Held Status → History → History → Type 0
@@ -175,7 +177,7 @@ ready_opened store engine unshut attached starts =
     (λ was now k. k)
 
 -- At each moment of an opening nothing was asked and nothing was sent.
-module _ (endpoint : List ℕ) (b : RunStart) (stands : Stands (files b.was) b.first b.steps) where
+module _ (endpoint : List ℕ) (b : RunStart) (stands : Stands b.keys (files b.was) b.first b.steps) where
   nothing : (line : ℕ) (on_files : List Call) (done : Result (Unit {0}) NameFault) → OnlyFiles on_files → sent line (on_files ++ Attached b.store done ∷ []) ≡ []
   nothing line on_files done only = same_by_files (sent line) (λ file c calls. refl) on_files (Attached b.store done ∷ []) only
 
@@ -230,11 +232,11 @@ module _ (endpoint : List ℕ) (b : RunStart) (stands : Stands (files b.was) b.f
   opening_each (Told t ∷ on_files) done only attached unfailed each = absurd only
   opening_each (Drew purpose bytes ∷ on_files) done only attached unfailed each = absurd only
 
-each_of : (endpoint store : List ℕ) (was : History) (first : State) (steps : ℕ) (calls : List Call) → Stands (files was) first steps → (o : AreOpeningCalls store was calls)
-    → AtEach (Answered endpoint (run_start store was first steps) []) calls
-each_of endpoint store was first steps calls stands o =
-    subst (AtEach (Answered endpoint (run_start store was first steps) [])) (sym o.made)
-    (opening_each endpoint (run_start store was first steps) stands o.on_files o.done o.only o.attached (subst IsUnfailedBefore o.made o.unfailed) (subst (AtEach (λ x. IsAsBefore was (then_calls was x))) o.made o.each))
+each_of : (endpoint store : List ℕ) (was : History) (keys : List WrappedKey) (first : State) (steps : ℕ) (calls : List Call) → Stands keys (files was) first steps → (o : AreOpeningCalls store was calls)
+    → AtEach (Answered endpoint (run_start store was keys first steps) []) calls
+each_of endpoint store was keys first steps calls stands o =
+    subst (AtEach (Answered endpoint (run_start store was keys first steps) [])) (sym o.made)
+    (opening_each endpoint (run_start store was keys first steps) stands o.on_files o.done o.only o.attached (subst IsUnfailedBefore o.made o.unfailed) (subst (AtEach (λ x. IsAsBefore was (then_calls was x))) o.made o.each))
 
 -- what no opening does
 same_opening : {A : Type 0} (F : List Call → A) (store : List ℕ) (was : History) (calls : List Call) → ((file : ℕ) (c : FileCall) (x : List Call) → F (OnFile file c ∷ x) ≡ F x)
@@ -244,20 +246,20 @@ same_opening F store was calls skips o = ap F o.made ∙ same_by_files F skips o
 -- before the first turn
 pub good_opened : (endpoint store : List ℕ) (engine : Held) (was : History) (calls : List Call) → IsOpenedBy store engine was calls
     → FromStore store was (λ b. GoodAt endpoint b (serving_of engine) calls)
-good_opened endpoint store engine was calls o first steps stands =
+good_opened endpoint store engine was calls o keys first steps stands =
     let s = o.start in
-    let one = one_state (files was) engine.state first s.0 steps s.1 stands in
+    let one = one_state (files was) s.0 keys engine.state first s.1 steps s.2 stands in
     let none : events calls ≡ [] = same_opening events store was calls (λ file c x. refl) o.opening in
     let bytes : taken 0 calls ≡ [] = same_opening (taken 0) store was calls (λ file c x. refl) o.opening in
     let unsent : (line : ℕ) → sent line calls ≡ [] = λ line. same_opening (sent line) store was calls (λ file c x. refl) o.opening in
     record {
       marks = [];
-      each = each_of endpoint store was first steps calls stands o.opening;
+      each = each_of endpoint store was keys first steps calls stands o.opening;
       marked = ap length none;
       counted = sym (ap length none);
       state = rw none one.0;
-      settled = rw none (subst (λ (n : ℕ). IsSettled engine n (then_calls was calls)) (one.1 ∙ plus_none steps) s.2);
-      quiet = s.3;
+      settled = rw none (subst (λ (k : List WrappedKey). IsSettled k engine (steps + 0) (then_calls was calls)) one.2 (subst (λ (n : ℕ). IsSettled s.0 engine n (then_calls was calls)) (one.1 ∙ plus_none steps) s.3));
+      quiet = s.4;
       held = rw bytes (after-first [] refl);
       place = rw bytes refl;
       owes = λ line. rw (none, unsent line) (sym (on_line-nil line));
@@ -272,7 +274,7 @@ good_opened endpoint store engine was calls o first steps stands =
 
 -- a store that is refused stood for no state, or a call failed, or the run was out of memory
 pub ended_unopened : (endpoint store : List ℕ) (s : Status) (was : History) (calls : List Call) → IsUnopened store s was calls → FromStore store was (λ b. EndedAt endpoint b s calls)
-ended_unopened endpoint store s was calls u first steps stands = by_status s u.why
+ended_unopened endpoint store s was calls u keys first steps stands = by_status s u.why
   where
     none : events calls ≡ []
     none = same_opening events store was calls (λ file c x. refl) u.opening
@@ -280,14 +282,14 @@ ended_unopened endpoint store s was calls u first steps stands = by_status s u.w
     unfinished : at_end 0 calls ≡ false
     unfinished = same_opening (at_end 0) store was calls (λ file c x. refl) u.opening
 
-    by_status : (s : Status) → IsRefused s was calls → EndedAt endpoint (run_start store was first steps) s calls
-    by_status status.NoStore why = let no : None ≡ Some stands.files.standing = sym why.0 ∙ stands.files.current in absurd (cc)
+    by_status : (s : Status) → IsRefused s was calls → EndedAt endpoint (run_start store was keys first steps) s calls
+    by_status status.NoStore why = let no : None ≡ Some stands.standing = sym why.0 ∙ stands.current in absurd (cc)
     by_status (status.Damaged place) why =
         let d = why.0 in
-        absurd (no_damage (files was) first steps d.0 d.1 stands d.2 d.4)
+        absurd (no_damage keys (files was) first steps d.0 d.1 stands d.2 d.4)
     by_status status.StoreFault why = record {
       marks = [];
-      each = each_of endpoint store was first steps calls stands u.opening;
+      each = each_of endpoint store was keys first steps calls stands u.opening;
       marked = ap length none;
       end = (
         record { failed = why; given = inl (λ line. same_opening (sent line) store was calls (λ file c x. refl) u.opening ∙ sym (ap (λ es. due line endpoint first es [] true) none)) },
@@ -296,7 +298,7 @@ ended_unopened endpoint store s was calls u first steps stands = by_status s u.w
     }
     by_status status.NoMemory why = record {
       marks = [];
-      each = each_of endpoint store was first steps calls stands u.opening;
+      each = each_of endpoint store was keys first steps calls stands u.opening;
       marked = ap length none;
       end = (
         λ line. same_opening (sent line) store was calls (λ file c x. refl) u.opening ∙ sym (ap (λ es. replies line endpoint first es []) none),

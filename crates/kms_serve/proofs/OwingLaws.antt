@@ -168,10 +168,10 @@ module _ (endpoint : List ℕ) (b : RunStart) (s : Serving) (then : Held) (stand
       omega (arith, here, steps_by-more b.first es o.marks e mark o.marked)
 
   abbrev pub Moment : History → Type 0
-  Moment h = IsSettledOrAll s.engine.state (b.steps + steps_by b.first es o.marks) then.state (steps_at s.engine e mark) mid h
+  Moment h = IsSettledOrAll b.keys s.engine.state (b.steps + steps_by b.first es o.marks) then.state (steps_at s.engine e mark) mid h
 
   two_states : (on_files : List Call) → Moment (then_calls mid on_files) → IsQuietStore b.was → (image : List ℕ × List ℕ) → IsImage (history b (on_files ++ Told time ∷ x)) image
-      → Stands image (state_by b.first es o.marks) (b.steps + steps_by b.first es o.marks) ⊎ Stands image (state_by b.first (es ++ e ∷ []) marks) (b.steps + steps_by b.first (es ++ e ∷ []) marks)
+      → Stands b.keys image (state_by b.first es o.marks) (b.steps + steps_by b.first es o.marks) ⊎ Stands b.keys image (state_by b.first (es ++ e ∷ []) marks) (b.steps + steps_by b.first (es ++ e ∷ []) marks)
   two_states on_files settling quiet image is =
       let here : IsImage (then_calls mid on_files) image = subst (λ (h : History). IsImage h image) (then_calls-append b.was on_files (Told time ∷ x)) is in
       elim (settling.images (quiet_same (history b x) mid (same_told (history b x) time) (o.quiet quiet)) image here) [
@@ -265,7 +265,7 @@ module _ (endpoint : List ℕ) (b : RunStart) (s : Serving) (then : Held) (stand
 
   -- it is settled, and its reply is owed
   pub settled_at : (t : Serving) (now : After) (reply : List ℕ) (on_files : List Call) → OnlyFiles on_files → (IsSome on_files → 0 < steps_at s.engine e mark)
-      → Settled s.engine then (b.steps + steps_by b.first es o.marks) (steps_at s.engine e mark) false mid on_files
+      → Settled b.keys s.engine then (b.steps + steps_by b.first es o.marks) (steps_at s.engine e mark) false mid on_files
       → store_failed on_files ≡ false
       → reply ≡ reply_to endpoint e (answer_at s.engine.state (asked e) mark)
       → t.engine ≡ then
@@ -421,7 +421,7 @@ done E = Ok tt
 
 -- giving leaves what was settled
 gives_settled : (b : RunStart) (engine : Held) (marks : List Mark) (x y : List Call) → OnlyGives 0 y → events (y ++ x) ≡ events x
-    → IsSettled engine (b.steps + steps_by b.first (events x) marks) (history b x) → IsSettled engine (b.steps + steps_by b.first (events (y ++ x)) marks) (history b (y ++ x))
+    → IsSettled b.keys engine (b.steps + steps_by b.first (events x) marks) (history b x) → IsSettled b.keys engine (b.steps + steps_by b.first (events (y ++ x)) marks) (history b (y ++ x))
 gives_settled b engine marks x y gave same settled =
     rw same (settled_same engine (b.steps + steps_by b.first (events x) marks) (history b x) (history b (y ++ x)) (same_gives 0 b y x gave) settled)
 
@@ -460,7 +460,7 @@ owing_given E endpoint b s now owed x y o g =
     }
 
 -- what stands for the last state leaves it in each crash image
-kept_by : (b : RunStart) (marks : List Mark) (calls : List Call) → Stands (files (history b calls)) (state_by b.first (events calls) marks) (b.steps + steps_by b.first (events calls) marks)
+kept_by : (b : RunStart) (marks : List Mark) (calls : List Call) → Stands b.keys (files (history b calls)) (state_by b.first (events calls) marks) (b.steps + steps_by b.first (events calls) marks)
     → (IsQuietStore b.was → IsQuietStore (history b calls)) → store_failed calls ≡ false → AllKept b marks calls
 kept_by b marks calls stands quiet unfailed = record {
   stands = stands;
@@ -530,7 +530,7 @@ shut_each endpoint b marks calls once given over unfailed keep each =
 
 -- what is kept when a line is shut, or bytes were taken
 kept_same : (b : RunStart) (marks : List Mark) (engine : Held) (was now : List Call) → Same (history b was) (history b now) → events now ≡ events was
-    → engine.state ≡ state_by b.first (events was) marks → IsSettled engine (b.steps + steps_by b.first (events was) marks) (history b was)
+    → engine.state ≡ state_by b.first (events was) marks → IsSettled b.keys engine (b.steps + steps_by b.first (events was) marks) (history b was)
     → (IsQuietStore b.was → IsQuietStore (history b was)) → store_failed now ≡ false → AllKept b marks now
 kept_same b marks engine was now calls same state settled quiet unfailed =
     let n = b.steps + steps_by b.first (events was) marks in
@@ -576,8 +576,8 @@ pub owing_prepared : (endpoint : List ℕ) (b : RunStart) (s t : Serving) (now :
 owing_prepared endpoint b s t now owed sv x y is count place held well o p =
     let next = served_at-next s.count (taken 0 x) s.reader.held sv o.held is in
     let one = events-told s.count p.time sv x o.sound o.counted next in
-    let settled = subst (λ f. Settled s.engine t.engine (b.steps + steps_by b.first (events x) o.marks) (steps_at s.engine (event s.count p.time sv) p.mark) f (then_call (history b x) (Told p.time)) p.files) well
-    (p.settled (b.steps + steps_by b.first (events x) o.marks) o.settled) in
+    let settled = subst (λ f. Settled b.keys s.engine t.engine (b.steps + steps_by b.first (events x) o.marks) (steps_at s.engine (event s.count p.time sv) p.mark) f (then_call (history b x) (Told p.time)) p.files) well
+    (p.settled b.keys (b.steps + steps_by b.first (events x) o.marks) o.settled) in
     subst (OwingAt endpoint b t now (owed_bytes owed)) (sym (ap (λ z. z ++ x) p.made ∙ unpack p.files x p.time))
     (settled_at endpoint b s t.engine (Going s.reader.held) sv p.time p.mark x o one p.state t now (owed_bytes owed) p.files p.only (steps_needed _ p.files p.idle) settled (p.failed ∙ well) (p.reply_is well) refl count place held)
 
@@ -590,7 +590,7 @@ pub faulting_prepared : (endpoint : List ℕ) (b : RunStart) (s : Serving) (then
 faulting_prepared endpoint b s then owed sv x y is fault o p =
     let next = served_at-next s.count (taken 0 x) s.reader.held sv o.held is in
     let one = events-told s.count p.time sv x o.sound o.counted next in
-    let settled = p.settled (b.steps + steps_by b.first (events x) o.marks) o.settled in
+    let settled = p.settled b.keys (b.steps + steps_by b.first (events x) o.marks) o.settled in
     rw (p.fault_is fault)
     (subst (FaultingAt endpoint b (fault_reply_of F1)) (sym (ap (λ z. z ++ x) p.made ∙ unpack p.files x p.time))
     (faulted_at endpoint b s then (Going s.reader.held) sv p.time p.mark x o one p.state p.files p.only p.unfailed (steps_needed _ p.files p.idle) settled.each (p.failed ∙ fault)))

@@ -16,7 +16,9 @@ use Rattle.kms_journal.specs.Fault.{Fails}
 use Rattle.kms_journal.specs.Position.{Position, IsPlaced}
 use Rattle.kms_journal.specs.Standing.{Standing}
 use Rattle.kms_world.specs.State.{State}
+use Rattle.kms_record.specs.declared.key.WrappedKey.{WrappedKey}
 use Rattle.kms_core.specs.Settling.{IsOpened, IsSettledOrAll, Settles, count_of}
+use Rattle.kms_core.specs.Stands.{kept_as}
 use Rattle.kms_core.specs.Steps.{Held, IsIdle, IsSettled, KeepsTheSame, Waits}
 use Rattle.kms_kept.specs.Kept.{Kept}
 use Rattle.kms_core.proofs.StandsLaws.{one_state}
@@ -35,47 +37,45 @@ use Rattle.kms_serve.proofs.StoreCallLaws.{only_files, failed_since, failed_once
 
 -- what settling promises, as its contract says it
 abbrev pub SettleClause : {T E : Type 0} → (then after : Held) → Result T E → (was now : History) → Type 0
-SettleClause then after result was now = (settled : State) (steps : ℕ) → IsOpened then.store was settled steps then.state
-    → Settles after.store result settled steps then.state (count_of then.store) was now
+SettleClause then after result was now = (keys : List WrappedKey) (settled : State) (steps : ℕ) → IsOpened keys then.store was settled steps then.state
+    → Settles keys after.store result settled steps then.state (count_of then.store) was now
 
 -- the calls that settled
-pub record Calls (before after : Held) (steps more : ℕ) (failed : Bool) (mid now : History) : Type 0 where
+pub record Calls (keys : List WrappedKey) (before after : Held) (steps more : ℕ) (failed : Bool) (mid now : History) : Type 0 where
   pub on_files : List Call
   pub extends : now ≡ then_calls mid on_files
   pub only : OnlyFiles on_files
   pub idle : more ≡ 0 → on_files ≡ []
   pub fails : store_failed on_files ≡ failed
   pub unfailed : IsUnfailedBefore on_files
-  pub settled : Settled before after steps more failed mid on_files
+  pub settled : Settled keys before after steps more failed mid on_files
 
 no_calls : (h : History) (more : List Call) → then_calls h more ≡ h → more ≡ []
 no_calls h more same =
     let long = ap length (sym (then_calls-calls h more) ∙ ap (λ (x : History). x.calls) same) in
     nil_from_length more (omega (arith, long, length-append more h.calls))
 
-module _ (before then after : Held) (steps more : ℕ) (mid now : History) (s : IsSettled before steps mid) (waits : Waits before then more) (same : after.state ≡ then.state) where
-  opened : IsOpened then.store mid before.state steps then.state
+module _ (keys : List WrappedKey) (before then after : Held) (steps more : ℕ) (mid now : History) (s : IsSettled keys before steps mid) (waits : Waits before then more) (same : after.state ≡ then.state) where
+  opened : IsOpened keys then.store mid before.state steps then.state
   opened =
       let k = s.opened in
       let o = k.opened in
       record {
-        kept = k.kept;
-        settled = k.settled;
         opened = record {
           standing = o.standing;
           placed = subst (λ (p : Position). IsPlaced p mid o.standing) (sym waits.journal) o.placed;
           keeps = o.keeps;
           counted = o.counted;
-          leads = waits.leads k.kept o.leads;
+          leads = waits.leads (kept_as keys before.state) o.leads;
         };
-        now = waits.now k.now;
+        now = waits.now keys k.now;
       }
 
   many : count_of then.store ≡ more
   many = omega (arith, waits.count, s.idle.count)
 
   abbrev Moment : (state : State) → (many : ℕ) → List Call → Type 0
-  Moment state many x = IsSettledOrAll before.state steps state many mid (then_calls mid x)
+  Moment state many x = IsSettledOrAll keys before.state steps state many mid (then_calls mid x)
 
   moments : (on_files : List Call) → AtEach (Moment then.state (count_of then.store)) on_files → AtEach (Moment after.state more) on_files
   moments on_files each =
@@ -83,22 +83,22 @@ module _ (before then after : Held) (steps more : ℕ) (mid now : History) (s : 
       (λ x h. subst (λ (k : ℕ). Moment after.state k x) many (subst (λ (q : State). Moment q (count_of then.store) x) (sym same) h))
       each
 
-  settled_now : IsIdle after → (on_files : List Call) → now ≡ then_calls mid on_files → IsOpened after.store now then.state (steps + count_of then.store) then.state
-      → IsSettled after (steps + more) (then_calls mid on_files)
+  settled_now : IsIdle after → (on_files : List Call) → now ≡ then_calls mid on_files → IsOpened keys after.store now then.state (steps + count_of then.store) then.state
+      → IsSettled keys after (steps + more) (then_calls mid on_files)
   settled_now idle on_files extends o =
       record {
         idle = idle;
         opened =
-            subst (λ (q : State). IsOpened after.store (then_calls mid on_files) q (steps + more) q) (sym same)
-            (subst (λ (n : ℕ). IsOpened after.store (then_calls mid on_files) then.state (steps + n) then.state) many (subst (λ (h : History). IsOpened after.store h then.state (steps + count_of then.store) then.state) extends o));
+            subst (λ (q : State). IsOpened keys after.store (then_calls mid on_files) q (steps + more) q) (sym same)
+            (subst (λ (n : ℕ). IsOpened keys after.store (then_calls mid on_files) then.state (steps + n) then.state) many (subst (λ (h : History). IsOpened keys after.store h then.state (steps + count_of then.store) then.state) extends o));
       }
 
   pub calls_of : {T E : Type 0} (result : Result T E) → SettleClause then after result mid now → Fails (is_err result) mid now → OnOk result (IsIdle after) → (count_of then.store ≡ 0 → now ≡ mid)
-      → Calls before after steps more (is_err result) mid now
+      → Calls keys before after steps more (is_err result) mid now
   calls_of (Ok x) clause fails idle uncalled =
-      let k = clause before.state steps opened in
+      let k = clause keys before.state steps opened in
       let t = k.throughout in
-      let only = only_files mid t.more (ap (λ (h : History). others h) (sym t.extends) ∙ (at_last (IsSettledOrAll before.state steps then.state (count_of then.store) mid) mid now t).others) in
+      let only = only_files mid t.more (ap (λ (h : History). others h) (sym t.extends) ∙ (at_last (IsSettledOrAll keys before.state steps then.state (count_of then.store) mid) mid now t).others) in
       record {
         on_files = t.more;
         extends = t.extends;
@@ -113,9 +113,9 @@ module _ (before then after : Held) (steps more : ℕ) (mid now : History) (s : 
         };
       }
   calls_of (Err e) clause fails idle uncalled =
-      let k = clause before.state steps opened in
+      let k = clause keys before.state steps opened in
       let t = k.throughout in
-      let only = only_files mid t.more (ap (λ (h : History). others h) (sym t.extends) ∙ (at_last (IsSettledOrAll before.state steps then.state (count_of then.store) mid) mid now t).others) in
+      let only = only_files mid t.more (ap (λ (h : History). others h) (sym t.extends) ∙ (at_last (IsSettledOrAll keys before.state steps then.state (count_of then.store) mid) mid now t).others) in
       record {
         on_files = t.more;
         extends = t.extends;
@@ -133,7 +133,7 @@ module _ (before then after : Held) (steps more : ℕ) (mid now : History) (s : 
 -- A time was told, and the steps that wait were settled.
 pub record Settling (before after : Held) (time more : ℕ) (failed : Bool) (was now : History) : Type 0 where
   pub ready : CanServe before was
-  pub calls : Calls before after ready.steps more failed (then_call was (Told time)) now
+  pub calls : Calls ready.keys before after ready.steps more failed (then_call was (Told time)) now
 
 pub settling : {a d c : Option History} {T E : Type 0} (before then after : Held) (time more : ℕ) (result : Result T E)
     → WhereTold a (CanServe before) → Tells a d (λ was now. now ≡ then_call was (Told time)) → Waits before then more
@@ -147,7 +147,7 @@ settling before then after time more result ready told waits clause fails same i
     let here = settled_same before k.0.steps was (then_call was (Told time)) (same_told was time) k.0.settled in
     record {
       ready = k.0;
-      calls = calls_of before then after k.0.steps more (then_call was (Told time)) now here waits same result (subst (λ (m : History). SettleClause then after result m now) k.1 h.0.0) (subst (λ (m : History). Fails (is_err result) m now) k.1 h.0.1) idle (λ i. h.1 i ∙ k.1);
+      calls = calls_of k.0.keys before then after k.0.steps more (then_call was (Told time)) now here waits same result (subst (λ (m : History). SettleClause then after result m now) k.1 h.0.0) (subst (λ (m : History). Fails (is_err result) m now) k.1 h.0.1) idle (λ i. h.1 i ∙ k.1);
     })
 
 -- the same as the calls since then
@@ -179,10 +179,11 @@ prepared endpoint before then after sv n time owed final failed r same fault wel
         reply_is = λ not. ap owed_bytes (well (sym fault ∙ not)) ∙ r.reply_is;
         fault_is = λ is. bad (sym fault ∙ is);
         state = same ∙ r.state;
-        settled = λ steps here.
-            let one = one_state (files was) before.state before.state k.ready.steps steps (settled_stands before k.ready.steps was k.ready.settled) (settled_stands before steps was here) in
-            subst (λ (x : Bool). Settled before after steps more x (then_call was (Told time)) f.on_files) (sym fault)
-            (subst (λ (m : ℕ). Settled before after m more failed (then_call was (Told time)) f.on_files) one.1 f.settled);
+        settled = λ keys steps here.
+            let one = one_state (files was) k.ready.keys keys before.state before.state k.ready.steps steps (settled_stands before k.ready.steps was k.ready.settled) (settled_stands before steps was here) in
+            subst (λ (x : Bool). Settled keys before after steps more x (then_call was (Told time)) f.on_files) (sym fault)
+            (subst (λ (l : List WrappedKey). Settled l before after steps more failed (then_call was (Told time)) f.on_files) one.2
+            (subst (λ (m : ℕ). Settled k.ready.keys before after m more failed (then_call was (Told time)) f.on_files) one.1 f.settled));
       },
     ))
 
@@ -199,7 +200,7 @@ open_settling before after time more failed was now k =
 pub ready_settling : (before after : Held) (time more : ℕ) (was now : History) → Settling before after time more false was now → CanServe after now
 ready_settling before after time more was now k =
     let f = k.calls in
-    record { unshut = open_settling before after time more false was now k; steps = k.ready.steps + more; settled = subst (IsSettled after (k.ready.steps + more)) (sym f.extends) (f.settled.done refl) }
+    record { unshut = open_settling before after time more false was now k; keys = k.ready.keys; steps = k.ready.steps + more; settled = subst (IsSettled k.ready.keys after (k.ready.steps + more)) (sym f.extends) (f.settled.done refl) }
 
 -- what waits, told of an engine that keeps the same
 pub waits_by : (a b after : Held) (m n : ℕ) → KeepsTheSame a.store b.store → b.state ≡ a.state → m ≡ n → Waits b after m → Waits a after n
@@ -211,12 +212,12 @@ waits_by a b after m n same state steps w = record {
     spells = record { count = same.count ∙ l.spells.count; spelled = same.steps ∙ l.spells.spelled; admitted = l.spells.admitted };
     leads = l.leads ∙ ap (λ (k : Kept). Some k) (sym same.kept);
   });
-  now = λ e. w.now (ap (λ (k : Kept). k.state) same.kept ∙ e ∙ sym state);
+  now = λ keys e. w.now keys (same.kept ∙ e ∙ ap (kept_as keys) (sym state));
 }
 
 -- no step more
 pub waits_none : (engine : Held) → Waits engine engine 0
-waits_none engine = record { journal = refl; count = omega arith; leads = λ settled l. l; now = λ e. e }
+waits_none engine = record { journal = refl; count = omega arith; leads = λ settled l. l; now = λ keys e. e }
 
 pub waits_same : (a b : Held) → KeepsTheSame a.store b.store → b.state ≡ a.state → Waits a b 0
 waits_same a b same state = waits_by a b b 0 0 same state refl (waits_none b)
@@ -226,6 +227,7 @@ waits_same a b same state = waits_by a b b 0 0 same state refl (waits_none b)
 pub ready_told : (engine : Held) (time : ℕ) (was now : History) → CanServe engine was → now ≡ then_call was (Told time) → CanServe engine now
 ready_told engine time was now k is = subst (CanServe engine) (sym is) (record {
   unshut = record { came = k.unshut.came; not_shut = k.unshut.not_shut };
+  keys = k.keys;
   steps = k.steps;
   settled = settled_same engine k.steps was (then_call was (Told time)) (same_told was time) k.settled;
 })
@@ -233,6 +235,7 @@ ready_told engine time was now k is = subst (CanServe engine) (sym is) (record {
 pub ready_took : (engine : Held) (l room : ℕ) (bytes : Option (List ℕ)) (was now : History) → CanServe engine was → now ≡ then_call was (Took l room bytes) → CanServe engine now
 ready_took engine l room bytes was now k is = subst (CanServe engine) (sym is) (record {
   unshut = record { came = k.unshut.came; not_shut = k.unshut.not_shut };
+  keys = k.keys;
   steps = k.steps;
   settled = settled_same engine k.steps was (then_call was (Took l room bytes)) (same_took was l room bytes) k.settled;
 })
@@ -240,6 +243,7 @@ ready_took engine l room bytes was now k is = subst (CanServe engine) (sym is) (
 pub ready_gave : (engine : Held) (was : History) (gives : List Call) → CanServe engine was → OnlyGives 0 gives → CanServe engine (then_calls was gives)
 ready_gave engine was gives k only = record {
   unshut = open-gives 0 0 was gives only k.unshut;
+  keys = k.keys;
   steps = k.steps;
   settled = settled_same engine k.steps was (then_calls was gives) (same_gave_all 0 was gives only) k.settled;
 }

@@ -12,6 +12,8 @@ use Rattle.kms_host.specs.declared.call.FileCall.{FileCall}
 use Rattle.kms_host.specs.declared.call.FileCall.TheVariants.{Synced}
 use Rattle.kms_host.specs.declared.call.NameFault.{NameFault}
 use Rattle.kms_journal.specs.Device.{IsQuietStore}
+use Rattle.kms_world.specs.State.{State}
+use Rattle.kms_record.specs.declared.key.WrappedKey.{WrappedKey}
 use Rattle.kms_core.specs.Stands.{Stands}
 use Rattle.kms_core.proofs.StandsLaws.{one_state}
 use Rattle.kms_host.proofs.Moments.{by_moment-last}
@@ -114,12 +116,19 @@ names_it_again endpoint b s name done first c =
 
 -- it sends a byte of a reply while a stop may leave the store without the request's step
 pub replies_too_early : (endpoint : List ℕ) (b : RunStart) (s : Status) (calls : List Call) (image : List ℕ × List ℕ) → (c : Serves endpoint b s calls)
-    → IsQuietStore b.was → IsImage (history b calls) image → Stands image b.first b.steps
+    → IsQuietStore b.was → IsImage (history b calls) image → Stands b.keys image b.first b.steps
     → 0 < length (sent 0 calls) → 0 < steps_by b.first (take 1 (answered_of (store_failed calls) (events calls))) c.marks → ⊥
 replies_too_early endpoint b s calls image c quiet is stands begun stores =
     let h = (at_the_end endpoint b s calls c).safe.images quiet image is in
-    let one = one_state image b.first (state_by b.first (take h.count (events calls)) c.marks) b.steps (b.steps + steps_by b.first (take h.count (events calls)) c.marks) stands h.stands in
+    let one = one_state image b.keys b.keys b.first (state_by b.first (take h.count (events calls)) c.marks) b.steps (b.steps + steps_by b.first (take h.count (events calls)) c.marks) stands h.stands in
     omega (arith, h.acknowledged 0 0 begun, stores, one.1)
+
+-- a stop may leave other wrapped keys than those with which it began
+pub changes_a_wrapped_key : (endpoint : List ℕ) (b : RunStart) (s : Status) (calls : List Call) (image : List ℕ × List ℕ) (keys : List WrappedKey) (state : State) (steps : ℕ) → (c : Serves endpoint b s calls)
+    → IsQuietStore b.was → IsImage (history b calls) image → Stands keys image state steps → (keys ≡ b.keys → ⊥) → ⊥
+changes_a_wrapped_key endpoint b s calls image keys state steps c quiet is stands differ =
+    let h = (at_the_end endpoint b s calls c).safe.images quiet image is in
+    differ (one_state image keys b.keys state (state_by b.first (take h.count (events calls)) c.marks) steps (b.steps + steps_by b.first (take h.count (events calls)) c.marks) stands h.stands).2
 
 -- it calls a file after a call of a file that failed
 pub goes_on_after_a_fault : (endpoint : List ℕ) (b : RunStart) (s : Status) (f g : ℕ) (c d : FileCall) (calls : List Call) → file_call_failed c ≡ true
@@ -134,10 +143,10 @@ pub syncs_again : (endpoint : List ℕ) (b : RunStart) (s : Status) (store : Lis
 syncs_again endpoint b s store = goes_on_after_a_fault endpoint b s 0 0 (Synced false) (Synced false) (Attached store (Ok tt) ∷ []) refl
 
 -- it ends well and leaves a request's step after
-pub ends_without_a_step : (endpoint : List ℕ) (b : RunStart) (calls : List Call) → (c : Serves endpoint b status.Done calls) → Stands (files (history b calls)) b.first b.steps
+pub ends_without_a_step : (endpoint : List ℕ) (b : RunStart) (calls : List Call) → (c : Serves endpoint b status.Done calls) → Stands b.keys (files (history b calls)) b.first b.steps
     → 0 < steps_by b.first (events calls) c.marks → ⊥
 ends_without_a_step endpoint b calls c stands stores =
-    let one = one_state (files (history b calls)) b.first (state_by b.first (events calls) c.marks) b.steps (b.steps + steps_by b.first (events calls) c.marks) stands c.end.1.stands in
+    let one = one_state (files (history b calls)) b.keys b.keys b.first (state_by b.first (events calls) c.marks) b.steps (b.steps + steps_by b.first (events calls) c.marks) stands c.end.1.stands in
     omega (arith, stores, one.1)
 
 -- it answers a store fault though no call failed

@@ -6,6 +6,7 @@ use Rattle.kms_host.specs.Moment.{Since}
 use Rattle.kms_host.specs.declared.call.Call.{Call}
 use Rattle.kms_host.specs.declared.call.Call.TheVariants.{Attached}
 use Rattle.kms_host.proofs.Moments.{since_since, since_weaker, since_nothing}
+use Rattle.kms_record.specs.declared.key.WrappedKey.{WrappedKey}
 use Rattle.kms_core.specs.Stands.{Stands}
 use Rattle.kms_core.specs.Steps.{Held, IsSettled}
 use Rattle.kms_core.proofs.StandsLaws.{one_state}
@@ -28,15 +29,15 @@ use Rattle.kms_serve.proofs.OpeningLaws.{answered_as_before, before_all, good_op
 
 -- an engine that can serve begins well, from any moment
 good_from : (endpoint store : List ℕ) (engine : Held) (was : History) → CanServe engine was → FromStore store was (λ b. GoodAt endpoint b (serving_of engine) [])
-good_from endpoint store engine was can first steps stands =
-    let one = one_state (files was) engine.state first can.steps steps (settled_stands engine can.steps was can.settled) stands in
+good_from endpoint store engine was can keys first steps stands =
+    let one = one_state (files was) can.keys keys engine.state first can.steps steps (settled_stands engine can.steps was can.settled) stands in
     record {
       marks = [];
-      each = answered_as_before endpoint (run_start store was first steps) stands [] refl refl (λ line. refl) tt tt (before_all was);
+      each = answered_as_before endpoint (run_start store was keys first steps) stands [] refl refl (λ line. refl) tt tt (before_all was);
       marked = refl;
       counted = refl;
       state = one.0;
-      settled = subst (λ (n : ℕ). IsSettled engine n was) (one.1 ∙ plus_none steps) can.settled;
+      settled = subst (λ (k : List WrappedKey). IsSettled k engine (steps + 0) was) one.2 (subst (λ (n : ℕ). IsSettled can.keys engine n was) (one.1 ∙ plus_none steps) can.settled);
       quiet = λ quiet. quiet;
       held = after-first [] refl;
       place = refl;
@@ -52,8 +53,9 @@ good_from endpoint store engine was can first steps stands =
 
 -- the store stood for the engine's state, and was attached first
 record Stood (store : List ℕ) (engine : Held) (was : History) (calls : List Call) : Type 0 where
+  keys : List WrappedKey
   steps : ℕ
-  stands : Stands (files was) engine.state steps
+  stands : Stands keys (files was) engine.state steps
   attached : BeginsWith store calls
 
 begins_with : (store : List ℕ) (was : History) (calls later : List Call) → AreOpeningCalls store was calls → BeginsWith store (later ++ calls)
@@ -66,12 +68,12 @@ carried {a} {d} {c} endpoint store engine s opens ready ended =
     let good = since_weaker (λ was calls. FromStore store was (λ b. GoodAt endpoint b (serving_of engine) calls)) opens (λ was calls o. good_opened endpoint store engine was calls o) in
     let whole = ended store a good in
     let part = ended store d (since_nothing (λ was calls. FromStore store was (λ b. GoodAt endpoint b (serving_of engine) calls)) ready (λ was can. good_from endpoint store engine was can)) in
-    let stood = since_since (Stood store engine) opens part (λ was x y o e. record { steps = o.start.0; stands = o.start.1; attached = begins_with store was x y o.opening }) in
+    let stood = since_since (Stood store engine) opens part (λ was x y o e. record { keys = o.start.0; steps = o.start.1; stands = o.start.2; attached = begins_with store was x y o.opening }) in
     since_weaker (λ was calls. Carries endpoint store s was calls) (since_both whole stood)
     (λ was calls k. record {
       attached = k.1.attached;
-      serves = λ first steps stands. serves endpoint (run_start store was first steps) s calls (k.0 first steps stands);
-      refuses = λ none. absurd (none engine.state k.1.steps k.1.stands);
+      serves = λ keys first steps stands. serves endpoint (run_start store was keys first steps) s calls (k.0 keys first steps stands);
+      refuses = λ none. absurd (none k.1.keys engine.state k.1.steps k.1.stands);
     })
 
 pub refused : {a c : Option History} (endpoint store : List ℕ) (s : Status) → Since a c (λ was calls. OpensStore store (Err s) was calls) → Since a c (λ was calls. Carries endpoint store s was calls)
@@ -79,7 +81,7 @@ refused endpoint store s opens =
     since_weaker (λ was calls. Carries endpoint store s was calls) opens
     (λ was calls u. record {
       attached = begins_with store was calls [] u.opening;
-      serves = λ first steps stands. serves endpoint (run_start store was first steps) s calls (ended_unopened endpoint store s was calls u first steps stands);
+      serves = λ keys first steps stands. serves endpoint (run_start store was keys first steps) s calls (ended_unopened endpoint store s was calls u keys first steps stands);
       refuses = λ none. u;
     })
 

@@ -37,8 +37,8 @@ pub since_answered : {a d c : Option History} (endpoint store : List ℕ) (s t :
     → Owing endpoint store a c t (stand last t.reader.held) (owed_bytes owed)
 since_answered endpoint store s t q close last owed whole place count is_last well good prepared =
     since_since (λ was calls. FromStore store was (λ b. OwingAt endpoint b t (stand last t.reader.held) (owed_bytes owed) calls)) good prepared
-    (λ was x y h p first steps stands.
-    let o = h first steps stands in
+    (λ was x y h p keys first steps stands.
+    let o = h keys first steps stands in
     let here = ap (λ n. after most n (taken 0 x)) count ∙ after-next s.count (taken 0 x) s.reader.held t.reader.held q close o.held whole in
     let held = subst (λ (l : Bool). after most t.count (taken 0 x) ≡ Some (stand l t.reader.held)) (sym is_last) here in
     owing_prepared endpoint _ s t (stand last t.reader.held) owed (Asking q close) x y (ap served whole) count place held well o p)
@@ -53,7 +53,7 @@ pub since_refused : {a d c : Option History} (endpoint store : List ℕ) (s t : 
     → Since a c (λ was calls. FromStore store was (λ b. RefusingAt endpoint b t s.reader.passed (owed_bytes owed) calls))
 since_refused endpoint store s t owed bad count reader well good prepared =
     since_since (λ was calls. FromStore store was (λ b. RefusingAt endpoint b t s.reader.passed (owed_bytes owed) calls)) good prepared
-    (λ was x y h p first steps stands. refusing_prepared endpoint _ s t owed x y bad count reader well (h first steps stands) p)
+    (λ was x y h p keys first steps stands. refusing_prepared endpoint _ s t owed x y bad count reader well (h keys first steps stands) p)
 
 -- the store failed, and its fault is given as far as it goes
 pub since_faulted : {a d c e : Option History} (endpoint store : List ℕ) (s : Serving) (then : Held) (sv : Served) (owed : Owed)
@@ -66,9 +66,9 @@ pub since_faulted : {a d c e : Option History} (endpoint store : List ℕ) (s : 
 since_faulted endpoint store s then sv owed is fault good prepared given =
     since_since (λ was calls. FromStore store was (λ b. EndedAt endpoint b status.StoreFault calls))
     (since_since (λ was calls. FromStore store was (λ b. FaultingAt endpoint b (owed_bytes owed) calls)) good prepared
-    (λ was x y h p first steps stands. faulting_prepared endpoint _ s then owed sv x y is fault (h first steps stands) p))
+    (λ was x y h p keys first steps stands. faulting_prepared endpoint _ s then owed sv x y is fault (h keys first steps stands) p))
     given
-    (λ was x y h g first steps stands. ended_faulted endpoint _ (owed_bytes owed) x y (h first steps stands) g)
+    (λ was x y h g keys first steps stands. ended_faulted endpoint _ (owed_bytes owed) x y (h keys first steps stands) g)
 
 -- what is owed is given, and the line goes on
 pub since_given : {a d c : Option History} (endpoint store : List ℕ) (s : Serving) (last : Bool) (rest reply : List ℕ) → last ≡ false → rest ≡ s.reader.held
@@ -77,7 +77,7 @@ pub since_given : {a d c : Option History} (endpoint store : List ℕ) (s : Serv
 since_given endpoint store s last rest reply not_last held owing given =
     let going : stand last rest ≡ Going s.reader.held = ap (λ l. stand l rest) not_last ∙ ap Going held in
     since_since (λ was calls. FromStore store was (λ b. GoodAt endpoint b s calls)) owing given
-    (λ was x y h g first steps stands. owing_given Failed endpoint _ s (Going s.reader.held) reply x y (subst (λ z. OwingAt endpoint (run_start store was first steps) s z reply x) going (h first steps stands)) g)
+    (λ was x y h g keys first steps stands. owing_given Failed endpoint _ s (Going s.reader.held) reply x y (subst (λ z. OwingAt endpoint (run_start store was keys first steps) s z reply x) going (h keys first steps stands)) g)
 
 -- what is owed is given, and the line is over
 pub since_over : {a d c e : Option History} (endpoint store : List ℕ) (s : Serving) (last : Bool) (rest reply : List ℕ) → last ≡ true
@@ -87,4 +87,4 @@ pub since_over : {a d c e : Option History} (endpoint store : List ℕ) (s : Ser
 since_over endpoint store s last rest reply is_last owing given shut =
     let over : stand last rest ≡ Over = ap (λ l. stand l rest) is_last in
     since_since_call (λ was calls. FromStore store was (λ b. EndedAt endpoint b status.Done calls)) owing given shut
-    (λ was x y h g first steps stands. ended_over endpoint _ s _ (owing_given Failed endpoint _ s Over reply x y (subst (λ z. OwingAt endpoint (run_start store was first steps) s z reply x) over (h first steps stands)) g))
+    (λ was x y h g keys first steps stands. ended_over endpoint _ s _ (owing_given Failed endpoint _ s Over reply x y (subst (λ z. OwingAt endpoint (run_start store was keys first steps) s z reply x) over (h keys first steps stands)) g))

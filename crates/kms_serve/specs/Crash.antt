@@ -18,7 +18,7 @@ use Rattle.kms_serve.specs.StoreCalls.{store_failed}
 pub record Holds (endpoint : List ℕ) (start : RunStart) (marks : List Mark) (calls : List Call) (image : List ℕ × List ℕ) : Type 0 where
   pub count : ℕ
   pub within : count ≤ length (events calls)
-  pub stands : Stands image (state_by start.first (take count (events calls)) marks) (start.steps + steps_by start.first (take count (events calls)) marks)
+  pub stands : Stands start.keys image (state_by start.first (take count (events calls)) marks) (start.steps + steps_by start.first (take count (events calls)) marks)
   pub acknowledged : (line k : ℕ) → length (replies line endpoint start.first (take k (answered_of (store_failed calls) (events calls))) marks) < length (sent line calls)
       → steps_by start.first (take (k + 1) (answered_of (store_failed calls) (events calls))) marks ≤ steps_by start.first (take count (events calls)) marks
 

@@ -24,10 +24,10 @@ AllGiven endpoint start marks calls = (line : ℕ) → sent line calls ≡ repli
 -- The store stands for the state after all events, and has their steps, and no call of it failed. If nothing was pending when
 -- the run began, nothing is, and each crash image stands for that state and has those steps.
 pub record AllKept (start : RunStart) (marks : List Mark) (calls : List Call) : Type 0 where
-  pub stands : Stands (files (history start calls)) (state_by start.first (events calls) marks) (start.steps + steps_by start.first (events calls) marks)
+  pub stands : Stands start.keys (files (history start calls)) (state_by start.first (events calls) marks) (start.steps + steps_by start.first (events calls) marks)
   pub quiet : IsQuietStore start.was → IsQuietStore (history start calls)
   pub images : IsQuietStore start.was → (image : List ℕ × List ℕ) → IsImage (history start calls) image
-      → Stands image (state_by start.first (events calls) marks) (start.steps + steps_by start.first (events calls) marks)
+      → Stands start.keys image (state_by start.first (events calls) marks) (start.steps + steps_by start.first (events calls) marks)
   pub unfailed : store_failed calls ≡ false
 
 -- The line was read to its end, and the bytes after its last message are a part of one, which begins at this place.

@@ -1,7 +1,7 @@
 -- What the command `init` does: it names the store and, where there is none, draws a tag and creates a fresh one.
 use Rattle.std.specs.Prelude.{◌≡◌, ◌⊎◌, ℕ, ◌<◌, ◌/◌, List, [], ◌∷◌, length, Option, Some, None, IfSome, Result, Ok, Err}
 use Rattle.std.specs.Int.{w64, from_be_bytes}
-use Rattle.kms_host.specs.Disk.{disk, files, IsImage}
+use Rattle.kms_host.specs.Disk.{disk, files, reads, IsImage}
 use Rattle.kms_host.specs.History.{History, then_call}
 use Rattle.kms_host.specs.Moment.{AtEach, then_calls}
 use Rattle.kms_host.specs.Line.{IsOpen}
@@ -13,7 +13,7 @@ use Rattle.kms_host.specs.declared.call.NameFault.{NameFault}
 use Rattle.kms_host.specs.declared.call.NameFault.TheVariants as names
 use Rattle.kms_host.specs.declared.call.Purpose.TheVariants.{Tag}
 use Rattle.kms_world.specs.State.{empty_state}
-use Rattle.kms_journal.specs.Create.{fresh}
+use Rattle.kms_journal.specs.Create.{fresh, fresh_rest}
 use Rattle.kms_journal.specs.Device.{IsQuiet, IsQuietStore}
 use Rattle.kms_journal.specs.Standing.{Standing, standing_of}
 use Rattle.kms_journal.specs.declared.fault.CreateFault.{CreateFault}
@@ -45,7 +45,7 @@ creation_status (Err creation.NoMemory) = status.NoMemory
 
 -- the files stand for an empty key manager, whose ids have this tag
 abbrev pub IsFreshStore : List ℕ × List ℕ → ℕ → Type 0
-IsFreshStore image tag = Stands image (empty_state tag) 0 × (standing_of image ≡ Some (fresh tag))
+IsFreshStore image tag = Stands [] image (empty_state tag) 0 × (standing_of image ≡ Some (fresh tag))
 
 -- The calls that are not on a file, the newest first: the store was named, and then bytes were drawn for its tag.
 abbrev pub naming : List ℕ → Result (Unit {0}) NameFault → List Call
@@ -102,14 +102,15 @@ pub record IsUnderWay (store : List ℕ) (was : History) (calls : List Call) : T
       ⊎ (IsNoStore was × ((bytes : List ℕ) × (length bytes ≡ 8) × (apart_from_files calls ≡ drawing store (Some bytes)) × IsFreshStore image (tag_of bytes)))
   pub kept : IsStore was → AreAsBefore was calls
 
--- There was no store. Eight bytes were drawn, and the files as they read now are a fresh store of their tag, with nothing
--- pending on its file. So is each crash image, if nothing was pending when the run began.
+-- There was no store. Eight bytes were drawn, and the files as they read now are a fresh store of their tag, in file 0 and
+-- with no byte more there, and nothing is pending on it. So is each crash image, if nothing was pending when the run began.
 pub record IsCreated (store : List ℕ) (was : History) (calls : List Call) : Type 0 where
   pub none : IsNoStore was
   pub bytes : List ℕ
   pub eight : length bytes ≡ 8
   pub drawn : apart_from_files calls ≡ drawing store (Some bytes)
   pub fresh : IsFreshStore (files (then_calls was calls)) (tag_of bytes)
+  pub whole : reads 0 (then_calls was calls) ≡ 1 ∷ fresh_rest (tag_of bytes)
   pub rests : IsQuiet 0 (then_calls was calls)
   pub quiet : IsQuietStore was → IsQuietStore (then_calls was calls)
   pub images : IsQuietStore was → (image : List ℕ × List ℕ) → IsImage (then_calls was calls) image → IsFreshStore image (tag_of bytes)

@@ -6,6 +6,7 @@ use Rattle.kms_host.specs.Line.{sent, failed_on}
 use Rattle.kms_host.specs.declared.call.Call.{Call}
 use Rattle.kms_host.specs.declared.call.Call.TheVariants.{Text, Listened, Came, Attached, Took, Gave, Shut, OnFile, Told, Drew}
 use Rattle.kms_journal.specs.Device.{IsQuietStore}
+use Rattle.kms_record.specs.declared.key.WrappedKey.{WrappedKey}
 use Rattle.kms_core.specs.Settling.{IsSettledOrAll}
 use Rattle.kms_core.specs.Steps.{Held, IsSettled, Waits}
 use Rattle.kms_model.specs.Run.{answer_at, state_at, stores_at, steps_if}
@@ -44,9 +45,9 @@ pub record Responds (endpoint : List ℕ) (before after : Held) (e : LineEvent) 
   pub waits : Waits before after (steps_at before e mark)
 
 -- While the steps of an event are settled, from this moment on. Where the store failed in it, no more is known of it.
-pub record Settled (before after : Held) (steps more : ℕ) (failed : Bool) (mid : History) (files : List Call) : Type 0 where
-  pub each : AtEach (λ x. IsSettledOrAll before.state steps after.state more mid (then_calls mid x)) files
-  pub done : failed ≡ false → IsSettled after (steps + more) (then_calls mid files)
+pub record Settled (keys : List WrappedKey) (before after : Held) (steps more : ℕ) (failed : Bool) (mid : History) (files : List Call) : Type 0 where
+  pub each : AtEach (λ x. IsSettledOrAll keys before.state steps after.state more mid (then_calls mid x)) files
+  pub done : failed ≡ false → IsSettled keys after (steps + more) (then_calls mid files)
   pub quiet : failed ≡ false → IsQuietStore mid → IsQuietStore (then_calls mid files)
 
 -- A message was answered: its time was told, its steps were settled by calls on files, and no other call was made. Where one
@@ -63,8 +64,8 @@ pub record PreparesReply (endpoint : List ℕ) (before after : Held) (served : S
   pub reply_is : is_fault owed ≡ false → owed_bytes owed ≡ reply_to endpoint (event n time served) (answer_at before.state (asked (event n time served)) mark)
   pub fault_is : is_fault owed ≡ true → owed_bytes owed ≡ fault_reply_of F1
   pub state : after.state ≡ state_at before.state (asked (event n time served)) mark
-  pub settled : (steps : ℕ) → IsSettled before steps was
-      → Settled before after steps (steps_at before (event n time served) mark) (is_fault owed) (then_call was (Told time)) files
+  pub settled : (keys : List WrappedKey) (steps : ℕ) → IsSettled keys before steps was
+      → Settled keys before after steps (steps_at before (event n time served) mark) (is_fault owed) (then_call was (Told time)) files
 
 -- this piece, given on the line l, is what is left of the bytes
 pub record IsLeft (line : ℕ) (bytes : List ℕ) (l : ℕ) (piece : List ℕ) (calls : List Call) : Type 0 where

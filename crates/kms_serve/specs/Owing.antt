@@ -30,7 +30,7 @@ pub record OwingAt (endpoint : List ℕ) (start : RunStart) (s : Serving) (stand
   pub marked : length (events calls) ≡ length marks
   pub counted : s.count ≡ length (events calls)
   pub state : s.engine.state ≡ state_by start.first (events calls) marks
-  pub settled : IsSettled s.engine (start.steps + steps_by start.first (events calls) marks) (history start calls)
+  pub settled : IsSettled start.keys s.engine (start.steps + steps_by start.first (events calls) marks) (history start calls)
   pub quiet : IsQuietStore start.was → IsQuietStore (history start calls)
   pub held : after most s.count (taken 0 calls) ≡ Some stand
   pub place : s.reader.passed + length s.reader.held ≡ length (taken 0 calls)

@@ -5,6 +5,7 @@ use Rattle.kms_host.specs.History.{History}
 use Rattle.kms_host.specs.Moment.{Since, by_moment}
 use Rattle.kms_host.specs.declared.call.Call.{Call}
 use Rattle.kms_world.specs.State.{State}
+use Rattle.kms_record.specs.declared.key.WrappedKey.{WrappedKey}
 use Rattle.kms_core.specs.Stands.{Stands}
 use Rattle.kms_model.specs.declared.event.Mark.{Mark}
 use Rattle.kms_serve.specs.Answered.{Answered}
@@ -40,7 +41,7 @@ pub record Serves (endpoint : List ℕ) (start : RunStart) (s : Status) (calls :
 
 -- the files stand for no state
 abbrev pub StandForNone : List ℕ × List ℕ → Type 0
-StandForNone two = (first : State) (steps : ℕ) → Stands two first steps → ⊥
+StandForNone two = (keys : List WrappedKey) (first : State) (steps : ℕ) → Stands keys two first steps → ⊥
 
 -- A run that serves a store attaches it first. Where it stands for a state the run begins with that. Where it stands for none
 -- the run is refused, and what a stop leaves stands for what the files did, if nothing was pending when the run began.

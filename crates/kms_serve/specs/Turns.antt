@@ -4,6 +4,7 @@ use Rattle.kms_host.specs.History.{History}
 use Rattle.kms_host.specs.Faults.{Faults, Rose, NeverFalls}
 use Rattle.kms_host.specs.Moment.{Since}
 use Rattle.kms_host.specs.Line.{IsOpen}
+use Rattle.kms_record.specs.declared.key.WrappedKey.{WrappedKey}
 use Rattle.kms_core.specs.Steps.{Held, IsSettled}
 use Rattle.kms_http.specs.Stream.{After, front, longest}
 use Rattle.kms_http.specs.Stream.Front.{Whole}
@@ -36,8 +37,9 @@ Left endpoint store start now s (Ended ended) = HasEnded endpoint store start no
 -- Line 0 is open, and the engine's store stands for its state with no step that waits.
 pub record CanServe (engine : Held) (h : History) : Type 0 where
   pub unshut : IsOpen 0 h
+  pub keys : List WrappedKey
   pub steps : ℕ
-  pub settled : IsSettled engine steps h
+  pub settled : IsSettled keys engine steps h
 
 -- before the first turn
 abbrev pub serving_of : Held → Serving

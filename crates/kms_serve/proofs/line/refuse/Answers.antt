@@ -26,7 +26,7 @@ returns-in-Err-clause-good g c store start good =
     let refusing = since_refused c.args.endpoint.now store c.args.s.now after c.prepare-owed.result c.requires.bad refl refl (sym c.is_fault.ensures ∙ c.if-is_fault.false) good prepared in
     let given = rw c.owed_slice.ensures at c.in-Err.ensures.given in
     since_since (λ was calls. FromStore store was (λ b. EndedAt c.args.endpoint.now b status.LinkFault calls)) refusing given
-    (λ was x y h p first steps stands. ended_giving c.args.endpoint.now _ after Broken (owed_bytes c.prepare-owed.result) _ x y (h first steps stands).owing p)
+    (λ was x y h p keys first steps stands. ended_giving c.args.endpoint.now _ after Broken (owed_bytes c.prepare-owed.result) _ x y (h keys first steps stands).owing p)
 
 pub returns-clause-good : goal.returns-clause-good
 returns-clause-good g c store start good =
@@ -36,4 +36,4 @@ returns-clause-good g c store start good =
     let given = rw c.owed_slice.ensures at c.in-Ok.ensures.given in
     rw c.passed.ensures.value
     (since_since_call (λ was calls. FromStore store was (λ b. EndedAt c.args.endpoint.now b (status.Unreadable c.args.s.now.reader.passed) calls)) refusing given c.shut.ensures.told
-    (λ was x y h p first steps stands. ended_refused c.args.endpoint.now _ after c.args.s.now.reader.passed _ (refusing_given Failed c.args.endpoint.now _ after c.args.s.now.reader.passed (owed_bytes c.prepare-owed.result) x y (h first steps stands) p)))
+    (λ was x y h p keys first steps stands. ended_refused c.args.endpoint.now _ after c.args.s.now.reader.passed _ (refusing_given Failed c.args.endpoint.now _ after c.args.s.now.reader.passed (owed_bytes c.prepare-owed.result) x y (h keys first steps stands) p)))

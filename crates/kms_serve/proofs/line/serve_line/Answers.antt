@@ -27,7 +27,7 @@ loop-status-init g c =
 pub returns-in_default-clause-ended : goal.returns-in_default-clause-ended
 returns-in_default-clause-ended g c store start good =
     since_weaker (λ was calls. FromStore store was (λ b. EndedAt c.args.endpoint.now b status.NoMemory calls)) good
-    (λ was calls h first steps stands. ended_out_of_memory c.args.endpoint.now (run_start store was first steps) (serving_of c.args.engine) calls (h first steps stands))
+    (λ was calls h keys first steps stands. ended_out_of_memory c.args.endpoint.now (run_start store was keys first steps) (serving_of c.args.engine) calls (h keys first steps stands))
 
 pub loop-status-preserved : goal.loop-status-preserved
 loop-status-preserved g c = record {

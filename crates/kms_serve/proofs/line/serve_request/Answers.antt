@@ -28,7 +28,7 @@ returns-in-Err-clause-good g c store start before taken good =
     (ap (λ n. n + 1) taken.count) (rw taken.count at c.is_last-last.ensures) (sym c.is_fault.ensures ∙ c.if-is_fault.false) good prepared in
     let given = rw c.owed_slice.ensures at c.in-Err.ensures.given in
     since_since (λ was calls. FromStore store was (λ b. EndedAt c.args.endpoint.now b status.LinkFault calls)) owing given
-    (λ was x y h p first steps stands. ended_giving c.args.endpoint.now _ after _ (owed_bytes c.prepare-owed.result) _ x y (h first steps stands) p)
+    (λ was x y h p keys first steps stands. ended_giving c.args.endpoint.now _ after _ (owed_bytes c.prepare-owed.result) _ x y (h keys first steps stands) p)
 
 pub returns-then-last-clause-good : goal.returns-then-last-clause-good
 returns-then-last-clause-good g c store start before taken good =

@@ -33,4 +33,4 @@ returns-in-Ok-More-clause-good g c store start good =
 pub returns-in-Err-clause-good : goal.returns-in-Err-clause-good
 returns-in-Err-clause-good g c store start good =
     since_weaker (λ was calls. FromStore store was (λ b. EndedAt c.args.endpoint.now b status.NoMemory calls)) good
-    (λ was calls h first steps stands. ended_out_of_memory c.args.endpoint.now (run_start store was first steps) c.args.s.now calls (h first steps stands))
+    (λ was calls h keys first steps stands. ended_out_of_memory c.args.endpoint.now (run_start store was keys first steps) c.args.s.now calls (h keys first steps stands))
