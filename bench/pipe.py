@@ -50,7 +50,7 @@ def main() -> None:
         assert replies.count(b"200 OK") == gets
     peak = resource.getrusage(resource.RUSAGE_CHILDREN).ru_maxrss
     print(f"POST  {posts / posting:10.0f} requests a second, each with its two syncs")
-    print(f"GET   {gets / getting:10.0f} requests a second, each a walk over a list of {posts} rows, with the opening")
+    print(f"GET   {gets / getting:10.0f} requests a second out of {posts} secrets, with the opening")
     print(f"peak memory {peak / 1024:.1f} MiB")
 
 
