@@ -389,17 +389,20 @@ def encoded():
 
 
 def two_rules():
-    """Two rules broken at once."""
+    """Each break alone, and each two at once that aren't of one field. Some break two rules in one field's value."""
     breaks = [
         {"name": Part(256, "n")}, {"algorithm": Part(256, "n")}, {"number": 0}, {"mode": Part(256, "n")}, {"kind": "x"}, {"expiration": "x"},
         {"payload": ""}, {"payload": "a"}, {"payload": "a", "content_type": "x"},
         {"payload": "a", "content_type": "text/plain", "encoding": "base64"},
+        {"payload": "a", "content_type": "application/octet-stream"},
         {"payload": "a", "content_type": "application/octet-stream", "encoding": "base64"},
         {"payload": Part(20001, "a"), "content_type": "text/plain"},
         {"payload": Part(20001, "a"), "content_type": "x"},
         {"payload": Part(20001, "a"), "content_type": "text/plain", "encoding": "base64"},
         {"payload": Part(6667, "AAAA"), "content_type": "application/octet-stream", "encoding": "base64"},
     ]
+    for one in breaks:
+        yield secret_case(**one)
     for a, b in combinations(breaks, 2):
         if not a.keys() & b.keys():
             yield secret_case(**a, **b)
@@ -417,7 +420,7 @@ def payloads():
 
 def long_payloads():
     for part, count, end in [(b"a", 20000, b""), (b"a", 20001, b""), (b"\xc3\xa9", 10000, b""), (b"\xc3\xa9", 10000, b"\xc3"), (b"AAAA", 6666, b"AAA="), (b"AAAA", 6667, b""), (b"AAAA", 6667, b"A")]:
-        for kind, encoding in [("text/plain", None), ("application/octet-stream", None), ("application/octet-stream", "base64"), ("text/plain", "base64")]:
+        for kind, encoding in [("text/plain", None), ("application/octet-stream", None), ("application/octet-stream", "base64"), ("text/plain", "base64"), ("x", None), (None, None)]:
             yield [kind, encoding, part, count, end]
 
 
@@ -659,9 +662,9 @@ FILES = {
 }
 
 
-def squeezed(text):
-    """Without the layout that the formatter gives."""
-    return re.sub(r",?\s*([()\[\]])\s*", r"\1", re.sub(r"\s*\n\s*", " ", text)).replace(" ", "")
+def tokens(text):
+    """Its literals, words and marks, without the layout and the commas that the formatter gives."""
+    return re.findall(r'b?"(?:[^"\\]|\\.)*"|\w+|[^\s\w,]', text)
 
 
 def main():
@@ -670,7 +673,7 @@ def main():
         path, text = CRATES / name, "\n".join([HEAD, *tables()])
         if sys.argv[1:] == ["--write"]:
             path.write_text(text)
-        elif squeezed(path.read_text()) != squeezed(text):
+        elif tokens(path.read_text()) != tokens(text):
             print(f"body_vectors: {path} differs")
             status = 1
     return status

@@ -1,3 +1,4 @@
 pub mod PolicyLaws
 pub mod RepeatLaws
+pub mod SeenLaws
 pub mod UserLaws

@@ -1,5 +1,7 @@
 -- The users of a body, as they are taken one after the other.
+use denote.Ref.{Bor}
 use Rattle.std.proofs.Common.{◌≡◌, ℕ, ◌+◌, ◌<◌, ◌≤◌, Bool, true, false, ◌||◌, if◌then◌else◌, nat_le, nat_lt, List, [], ◌∷◌, ◌++◌, length, Some, None, take, drop, get_or, refl, sym, ap, subst, ◌∙◌, arith, length-append, le_trans, le_refl, take-append-drop, take_all}
+use Rattle.std.specs.BTreeSet.{BTreeSet}
 use Rattle.std.specs.List.{list_all}
 use Rattle.std.proofs.lemmas.Bool.{and_parts, and_from, leb-true, le-leb, lt-ltb, false_from_ne_true, true_from_ne_false, both_ways}
 use Rattle.std.proofs.lemmas.List.{take_more}
@@ -10,7 +12,7 @@ use Rattle.kms_world.specs.declared.refusal.CheckFault.{CheckFault}
 use Rattle.kms_world.specs.declared.refusal.CheckFault.TheVariants.{Refused, NoMemory}
 use Rattle.kms_policy.specs.Acl.{without_repeats, are_users}
 use Rattle.kms_policy.specs.Policy.{is_among}
-use Rattle.kms_policy.specs.Users.{with_name, is_taken, TakesUser, RefusesUsers}
+use Rattle.kms_policy.specs.Users.{with_name, is_taken, has_text, HasNames, TakesUser, RefusesUsers}
 use Rattle.kms_policy.proofs.RepeatLaws.{without_repeats-push, length-more}
 
 -- the names are those of the first i texts
@@ -63,14 +65,24 @@ pub RefusesUsers-all : (texts names : List (List ℕ)) (i : ℕ) (x : List ℕ) 
 RefusesUsers-all texts names i x (Refused refusal) h at taken off = (off.0, users_refused texts names i x h at taken off.1)
 RefusesUsers-all texts names i x NoMemory h at taken off = tt
 
+-- a text was read as this name
+read_as : (text read name : List ℕ) → read ≡ text → Some name ≡ (if is_name read then Some read else None) → (is_name text ≡ true) × (name ≡ text)
+read_as text read name at found =
+    let parts = cond_some (is_name read) read name (sym found) in
+    (subst (λ (w : List ℕ). is_name w ≡ true) at parts.0, sym parts.1 ∙ at)
+
+-- a text that the set hasn't is a name that isn't among the names
+pub not_among_unseen : (seen : BTreeSet (Bor (List ℕ))) (old : List (List ℕ)) (text read name : List ℕ) → HasNames seen old → has_text seen text ≡ false → read ≡ text → Some name ≡ (if is_name read then Some read else None) → is_among name old ≡ false
+not_among_unseen seen old text read name had unseen at found =
+    subst (λ (w : List ℕ). is_among w old ≡ false) (sym (read_as text read name at found).1) (sym (had text) ∙ unseen)
+
 -- a text was read as a name that isn't among the names, and this name was put behind them
 pub TakesUser-push : (old new : List (List ℕ)) (text read name : List ℕ) → read ≡ text → Some name ≡ (if is_name read then Some read else None) → is_among name old ≡ false → length old < 100 → new ≡ old ++ name ∷ [] → TakesUser old new text
 TakesUser-push old new text read name at found free few pushed =
-    let parts = cond_some (is_name read) read name (sym found) in
-    let named : name ≡ text = sym parts.1 ∙ at in
-    let behind : is_among text old ≡ false = subst (λ (w : List ℕ). is_among w old ≡ false) named free in
+    let parts = read_as text read name at found in
+    let behind : is_among text old ≡ false = subst (λ (w : List ℕ). is_among w old ≡ false) parts.1 free in
     record {
-      name = subst (λ (w : List ℕ). is_name w ≡ true) at parts.0;
-      names = rw behind (pushed ∙ ap (λ (w : List ℕ). old ++ w ∷ []) named);
+      name = parts.0;
+      names = rw behind (pushed ∙ ap (λ (w : List ℕ). old ++ w ∷ []) parts.1);
       few = rw pushed (omega (arith, few, length-append old (name ∷ [])));
     }

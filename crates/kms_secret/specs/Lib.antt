@@ -1,5 +1,7 @@
 pub mod Ascending
 pub mod Fields
+pub mod Key
+pub mod Laws
 pub mod Media
 pub mod Metadata
 pub mod Order

@@ -2,21 +2,18 @@
 use Rattle.std.specs.Prelude.{ℕ, Bool, true, not, ◌&&◌, List, [], ◌∷◌, length, map, nat_le, Option, Some, None, Result, Ok, Err, if◌then◌else◌}
 use Rattle.std.specs.Cmp.Lexicographic.{slice_cmp}
 use Rattle.std.specs.List.{list_all, list_any}
+use Rattle.std.specs.Option.{option_and_then}
 use Rattle.std.specs.Ordering.{nat_cmp}
 use Rattle.std.specs.Str.{bytes_eq, str_to_ascii_lowercase}
 use Rattle.std.specs.declared.cmp.Ordering.{Ordering}
-use Rattle.kms_world.specs.Name.{is_name_byte}
 use Rattle.kms_world.specs.declared.body.MetadataBody.{MetadataBody}
 use Rattle.kms_world.specs.declared.body.PairBody.{PairBody}
 use Rattle.kms_world.specs.declared.refusal.Field.TheVariants.{Metadata, Key, Value}
 use Rattle.kms_world.specs.declared.refusal.Refusal.{Refusal}
 use Rattle.kms_world.specs.declared.refusal.Refusal.TheVariants.{BadBody}
+use Rattle.kms_secret.specs.Key.{is_key, key_of}
 use Rattle.kms_secret.specs.Sorted.{sorted}
 use Rattle.kms_secret.specs.Rules.{◌>>=◌, only_if, there}
-
--- 1 to 255 bytes of A-Z a-z 0-9 - _ .
-abbrev pub is_key : List ℕ → Bool
-is_key key = nat_le 1 (length key) && nat_le (length key) 255 && list_all is_name_byte key
 
 abbrev pub is_value : List ℕ → Bool
 is_value value = nat_le (length value) 255
@@ -61,8 +58,7 @@ checked_metadata body = do
   metadata_by pairs
 
 abbrev pub key_by : Option (List ℕ) → Result (List ℕ) Refusal
-key_by None = Err (BadBody Key)
-key_by (Some key) = if is_key key then Ok (str_to_ascii_lowercase key) else Err (BadBody Key)
+key_by key = there (option_and_then key_of key) (BadBody Key)
 
 abbrev pub value_by : Option (List ℕ) → Result (List ℕ) Refusal
 value_by None = Err (BadBody Value)

@@ -2,6 +2,8 @@
 #![tactic(auto)]
 
 mod fields;
+mod key;
+pub mod laws;
 mod media;
 mod metadata;
 mod order;
@@ -12,6 +14,7 @@ mod table;
 #[cfg(test)]
 mod tests;
 
+pub use key::read_key;
 pub use metadata::{check_metadata, check_pair};
 pub use order::{NewOrder, check_order};
 pub use payload::check_payload;

@@ -1,16 +1,13 @@
 // Bodies of metadata, and of one pair of it.
 ghost use Rattle.std.specs.Prelude.{◌≡◌, Ok, map, OnOk, IfOk};
 ghost use Rattle.std.specs.List.{list_all};
-ghost use Rattle.std.specs.Str.{str_to_ascii_lowercase};
 ghost use Rattle.kms_world.specs.Checked.{IsUnlessNoMemory};
-ghost use Rattle.kms_world.specs.Name.{is_name_byte};
 ghost use Rattle.kms_secret.specs.Ascending.{is_next, if_ascending};
 ghost use Rattle.kms_secret.specs.Metadata as spec;
 
 use crate::fields::{MOST_BYTES, text_copied};
-use kms_world::{
-    CheckFault, Field, MetadataBody, NoMemory, PairBody, Pairs, Refusal, Text, is_name_byte,
-};
+use crate::key::{is_key, lower, read_key};
+use kms_world::{CheckFault, Field, MetadataBody, NoMemory, PairBody, Pairs, Refusal, Text};
 use std::alloc::Global;
 use std::cmp::Ordering;
 
@@ -18,42 +15,22 @@ const MOST_PAIRS: usize = 100;
 
 const BAD_METADATA: CheckFault = CheckFault::Refused(Refusal::BadBody(Field::Metadata));
 
-fn are_key_bytes(key: &[u8]) -> bool
-    ensures { result ≡ list_all is_name_byte key.now }
-{
-    key.iter().all(|b| is_name_byte(*b))
-}
-
-fn is_key(key: &Text) -> bool
-    ensures { result ≡ spec.is_key key.now }
-{
-    let key = key.as_str().as_bytes();
-    !key.is_empty() && key.len() <= MOST_BYTES && are_key_bytes(key)
-}
-
 fn is_value(value: &Text) -> bool
     ensures { result ≡ spec.is_value value.now }
 {
     value.as_str().len() <= MOST_BYTES
 }
 
-// A text in lower case (ASCII).
-fn lower(alloc: Global, text: &Text) -> Result<Text, NoMemory>
-    ensures { IfOk result (λ lower. lower ≡ str_to_ascii_lowercase text.now) }
-{
-    let lower = text.as_str().to_ascii_lowercase(alloc)?;
-    Text::of(alloc, lower.as_str())
-}
-
 fn key_by(alloc: Global, key: &Option<Text>) -> Result<Text, CheckFault>
     ensures { IsUnlessNoMemory result (spec.key_by key.now) }
 {
-    match key {
-        Some(key) if is_key(key) => match lower(alloc, key) {
-            Ok(key) => Ok(key),
-            Err(_) => Err(CheckFault::NoMemory),
-        },
-        _ => Err(CheckFault::Refused(Refusal::BadBody(Field::Key))),
+    let Some(text) = key else {
+        return Err(CheckFault::Refused(Refusal::BadBody(Field::Key)));
+    };
+    match read_key(alloc, text.as_str()) {
+        Ok(Some(key)) => Ok(key),
+        Ok(None) => Err(CheckFault::Refused(Refusal::BadBody(Field::Key))),
+        Err(_) => Err(CheckFault::NoMemory),
     }
 }
 
@@ -79,7 +56,7 @@ pub fn check_pair(alloc: Global, body: &PairBody) -> Result<(Text, Text), CheckF
 fn is_pair(pair: &(Text, Text)) -> bool
     ensures { result ≡ spec.is_pair pair.now }
 {
-    is_key(&pair.0) && is_value(&pair.1)
+    is_key(pair.0.as_str()) && is_value(&pair.1)
 }
 
 fn are_pairs(pairs: &[(Text, Text)]) -> bool
@@ -91,7 +68,7 @@ fn are_pairs(pairs: &[(Text, Text)]) -> bool
 fn lowered(alloc: Global, pair: &(Text, Text)) -> Result<(Text, Text), NoMemory>
     ensures { IfOk result (λ lowered. lowered ≡ spec.lowered pair.now) }
 {
-    let key = lower(alloc, &pair.0)?;
+    let key = lower(alloc, pair.0.as_str())?;
     let value = pair.1.clone()?;
     Ok((key, value))
 }

@@ -244,7 +244,7 @@ pub static PAYLOADS: [(&str, &[u8]); 142] = [
     ("=x¦-¦¦415", b"\xffQ=="),
 ];
 
-pub static LONG_PAYLOADS: [(&str, &[u8], u32, &[u8]); 28] = [
+pub static LONG_PAYLOADS: [(&str, &[u8], u32, &[u8]); 42] = [
     (
         "=text/plain¦-¦¦=text/plain 20000:3647332864",
         b"a",
@@ -264,6 +264,8 @@ pub static LONG_PAYLOADS: [(&str, &[u8], u32, &[u8]); 28] = [
         b"",
     ),
     ("=text/plain¦=base64¦¦415", b"a", 20000, b""),
+    ("=x¦-¦¦415", b"a", 20000, b""),
+    ("-¦-¦¦415", b"a", 20000, b""),
     ("=text/plain¦-¦¦413", b"a", 20001, b""),
     ("=application/octet-stream¦-¦¦413", b"a", 20001, b""),
     (
@@ -273,6 +275,8 @@ pub static LONG_PAYLOADS: [(&str, &[u8], u32, &[u8]); 28] = [
         b"",
     ),
     ("=text/plain¦=base64¦¦415", b"a", 20001, b""),
+    ("=x¦-¦¦415", b"a", 20001, b""),
+    ("-¦-¦¦415", b"a", 20001, b""),
     (
         "=text/plain¦-¦¦=text/plain 20000:1946843744",
         b"\xc3\xa9",
@@ -292,6 +296,8 @@ pub static LONG_PAYLOADS: [(&str, &[u8], u32, &[u8]); 28] = [
         b"",
     ),
     ("=text/plain¦=base64¦¦415", b"\xc3\xa9", 10000, b""),
+    ("=x¦-¦¦415", b"\xc3\xa9", 10000, b""),
+    ("-¦-¦¦415", b"\xc3\xa9", 10000, b""),
     ("=text/plain¦-¦¦bad payload", b"\xc3\xa9", 10000, b"\xc3"),
     (
         "=application/octet-stream¦-¦¦413",
@@ -306,6 +312,8 @@ pub static LONG_PAYLOADS: [(&str, &[u8], u32, &[u8]); 28] = [
         b"\xc3",
     ),
     ("=text/plain¦=base64¦¦415", b"\xc3\xa9", 10000, b"\xc3"),
+    ("=x¦-¦¦415", b"\xc3\xa9", 10000, b"\xc3"),
+    ("-¦-¦¦415", b"\xc3\xa9", 10000, b"\xc3"),
     ("=text/plain¦-¦¦413", b"AAAA", 6666, b"AAA="),
     ("=application/octet-stream¦-¦¦413", b"AAAA", 6666, b"AAA="),
     (
@@ -315,10 +323,14 @@ pub static LONG_PAYLOADS: [(&str, &[u8], u32, &[u8]); 28] = [
         b"AAA=",
     ),
     ("=text/plain¦=base64¦¦415", b"AAAA", 6666, b"AAA="),
+    ("=x¦-¦¦415", b"AAAA", 6666, b"AAA="),
+    ("-¦-¦¦415", b"AAAA", 6666, b"AAA="),
     ("=text/plain¦-¦¦413", b"AAAA", 6667, b""),
     ("=application/octet-stream¦-¦¦413", b"AAAA", 6667, b""),
     ("=application/octet-stream¦=base64¦¦413", b"AAAA", 6667, b""),
     ("=text/plain¦=base64¦¦415", b"AAAA", 6667, b""),
+    ("=x¦-¦¦415", b"AAAA", 6667, b""),
+    ("-¦-¦¦415", b"AAAA", 6667, b""),
     ("=text/plain¦-¦¦413", b"AAAA", 6667, b"A"),
     ("=application/octet-stream¦-¦¦413", b"AAAA", 6667, b"A"),
     (
@@ -328,4 +340,6 @@ pub static LONG_PAYLOADS: [(&str, &[u8], u32, &[u8]); 28] = [
         b"A",
     ),
     ("=text/plain¦=base64¦¦415", b"AAAA", 6667, b"A"),
+    ("=x¦-¦¦415", b"AAAA", 6667, b"A"),
+    ("-¦-¦¦415", b"AAAA", 6667, b"A"),
 ];

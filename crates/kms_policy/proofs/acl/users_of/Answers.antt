@@ -8,9 +8,11 @@ returns-in_err-add-clause-err c =
     let p = err_from_is_err_and c.from_residual.result c.from_residual.ensures.1 in
     rw (p.1, p.2)
     (RefusesUsers-all c.args.texts.now c.loop-text.names c.loop-text.text-index c.text-item.result c.in_err-add.field-0.0
-    (omega arith) c.text-item.is c.loop-text.invariant c.in_err-add.ensures.err)
+    (omega arith) c.text-item.is c.loop-text.invariant.taken c.in_err-add.ensures.err)
 
 pub loop-text-preserved : goal.loop-text-preserved
-loop-text-preserved c =
-    IsTaken-more c.args.texts.now c.loop-text.names c.add.new.names c.loop-text.text-index c.text-item.result
-    (omega arith) c.text-item.is c.loop-text.invariant c.in_ok-add.ensures.ok
+loop-text-preserved c = record {
+  taken = IsTaken-more c.args.texts.now c.loop-text.names c.add.new.names c.loop-text.text-index c.text-item.result
+      (omega arith) c.text-item.is c.loop-text.invariant.taken c.in_ok-add.ensures.ok;
+  seen = c.in_ok-add.ensures.seen;
+}
