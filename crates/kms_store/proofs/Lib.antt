@@ -1,3 +1,4 @@
+pub mod CheckpointLaws
 pub mod ConsumerLaws
 pub mod CountLaws
 pub mod DamageLaws
@@ -5,10 +6,15 @@ pub mod EditLaws
 pub mod KeysLaws
 pub mod LoadLaws
 pub mod ReadyLaws
+pub mod RowsLeftLaws
 pub mod SettleLaws
+pub mod SpellingLaws
 pub mod StagedLaws
 pub mod StandsLaws
+pub mod StepsLaws
 pub mod TableLaws
 pub mod TablesLaws
+pub mod TagLaws
 pub mod TalliedLaws
 pub mod TallyLaws
+pub mod WalkLaws

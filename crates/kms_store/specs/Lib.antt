@@ -1,4 +1,7 @@
+pub mod Checkpoint
 pub mod Counts
+pub mod Due
+pub mod Gives
 pub mod KeptSecret
 pub mod KeptSecretFields
 pub mod Keys
@@ -10,7 +13,13 @@ pub mod ReadyFields
 pub mod ReadyStep
 pub mod ReadyStepFields
 pub mod Rows
+pub mod RowsLeft
+pub mod SecretsLeft
 pub mod Settling
+pub mod Snapshot
+pub mod SnapshotFields
+pub mod Spelling
+pub mod SpellingFields
 pub mod Staged
 pub mod StagedFields
 pub mod Stands

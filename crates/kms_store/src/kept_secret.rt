@@ -1,11 +1,16 @@
 // Secrets as they are kept.
-ghost use Rattle.std.specs.Prelude.{◌≡◌, IfSome, None, ◌∷◌, slice_index};
+ghost use Rattle.std.specs.Prelude.{◌≡◌, IfSome, Some, None, [], ◌∷◌, slice_index};
 ghost use Rattle.std.specs.Str.{bytes_eq};
 ghost use Rattle.kms_world.specs.Effect.{with_payload, with_metadata};
 ghost use Rattle.kms_kept.specs.Kept.{token_replaced, is_under};
-ghost use Rattle.kms_kept.specs.Snapshot.{sealed, sealed_row};
+ghost use Rattle.kms_kept.specs.Snapshot.{sealed, sealed_row, payload_changes, metadata_changes};
+ghost use Rattle.kms_record.specs.Base.{as_change, count_of};
+ghost use Rattle.kms_record.specs.SecretPut.{put_of};
+ghost use Rattle.kms_record.specs.declared.change.Change.TheVariants as changes;
+ghost use Rattle.kms_store.specs.Gives.{Gives};
 ghost use Rattle.kms_store.specs.KeptSecret.{without_number};
 
+use kms_record::BaseChange;
 use kms_world::{Bytes, Name, Pairs, Payload, SecretRow};
 use std::marker::Model;
 
@@ -48,6 +53,35 @@ impl KeptSecret {
         ensures { IfSome self.now.payload (λ p. slice_index p.bytes 0 ≡ result) }
     {
         self.number
+    }
+
+    /// The change of a snapshot that puts its attributes.
+    pub(crate) fn put(&self) -> BaseChange<'_>
+        ensures { as_change result ≡ Some (changes.SecretPut (put_of (count_of self.now.id) self.now)) }
+    {
+        BaseChange::Secret(&self.row)
+    }
+
+    /// The one that puts its payload, if it has one.
+    pub(crate) fn payload_put(&self) -> Option<BaseChange<'_>>
+        ensures { Gives result (payload_changes self.now self.now.payload) [] }
+    {
+        if self.row.payload.is_some() {
+            Some(BaseChange::Payload(&self.row, self.number))
+        } else {
+            None
+        }
+    }
+
+    /// The one that puts its metadata, if it has some.
+    pub(crate) fn metadata_put(&self) -> Option<BaseChange<'_>>
+        ensures { Gives result (metadata_changes self.now self.now.metadata) [] }
+    {
+        if self.row.metadata.as_slice().is_empty() {
+            None
+        } else {
+            Some(BaseChange::Metadata(&self.row))
+        }
     }
 
     pub(crate) fn set_payload(&mut self, updated: u64, number: u32, payload: Payload)

@@ -3,6 +3,7 @@
 
 mod applies;
 mod apply;
+mod checkpointing;
 mod counts;
 mod edits;
 mod kept_secret;
@@ -10,12 +11,18 @@ mod keys;
 pub mod laws;
 mod load_fault;
 mod loading;
+mod measure;
 mod part;
 mod ready;
 mod ready_step;
 mod row;
 mod rows;
+mod rows_left;
+mod secrets_left;
+mod snapshot;
+mod spelling;
 mod staged;
+mod steps;
 mod store;
 mod table;
 mod tables;
@@ -23,11 +30,13 @@ mod tally;
 #[cfg(test)]
 mod tests;
 
+pub use checkpointing::checkpoint;
 pub use kept_secret::KeptSecret;
 pub use load_fault::LoadFault;
 pub use loading::load;
 pub use part::Part;
 pub use ready::Ready;
 pub use ready_step::ReadyStep;
+pub use steps::steps_after;
 pub use store::Store;
 pub use tables::Tables;

@@ -6,10 +6,13 @@ ghost use Rattle.kms_record.specs.Grammar.{IsChange, IsChangeInRange};
 ghost use Rattle.kms_kept.specs.Kept.{after_step, applies, changed, key_of, kept_first};
 ghost use Rattle.kms_kept.specs.Sound.{IsSound};
 ghost use Rattle.kms_store.specs.Counts.{count_of};
+ghost use Rattle.kms_kept.specs.Snapshot.{snapshot_of};
 ghost use Rattle.kms_store.specs.Part.{part_of, IsFit};
+ghost use Rattle.kms_store.specs.RowsLeft.{changes_left};
 
 use crate::counts::Counts;
 use crate::rows::Rows;
+use crate::rows_left::RowsLeft;
 use crate::{KeptSecret, Part, Ready, ReadyStep};
 use kms_record::{Change, Step, WrappedKey};
 use kms_world::{
@@ -241,5 +244,16 @@ impl Tables {
         ensures { result.now ≡ self.now.kept.keys }
     {
         &self.rows.keys
+    }
+
+    /// The rows as a snapshot has them.
+    pub(crate) fn rows_left(&self) -> RowsLeft<'_>
+        ensures all { changes_left result ≡ snapshot_of self.now.kept }
+        ensures grammar { AllByRecursion IsChange (changes_left result) }
+        ensures sound { IsSound self.now.kept }
+        ensures tag { self.now.kept.state.tag < 2 ^ 60 }
+    {
+        let _ = &self.alloc;
+        RowsLeft::of(self)
     }
 }

@@ -3,6 +3,7 @@ ghost use Rattle.kms_record.specs.Grammar.{AreSteps, IsStep};
 
 mod changes;
 mod settling;
+mod snapshots;
 
 use crate::tests::changes::{AGAIN, ALONE, CHANGES, COUNTS, PROJECTS, SECRETS, SNAPSHOT};
 use crate::{LoadFault, Part, Tables, load};
