@@ -2,4 +2,5 @@ pub mod Consumer
 pub mod Container
 pub mod Member
 pub mod Names
+pub mod Ranges
 pub mod Rules

@@ -5,6 +5,7 @@
 mod consumer;
 mod container;
 mod fields;
+pub mod laws;
 mod member;
 mod names;
 #[cfg(test)]

@@ -21,7 +21,7 @@ next_by_last (first ∷ second ∷ pairs) last pair at =
     later : (x : List ℕ × List ℕ) (xs : List (List ℕ × List ℕ)) (i j : ℕ) → j ≡ suc i → slice_get xs i ≡ slice_get (x ∷ xs) j
     later x xs i j e = rw e refl
 
-below_trans : (a b c : List ℕ) → is_below a b ≡ true → is_below b c ≡ true → is_below a c ≡ true
+pub below_trans : (a b c : List ℕ) → is_below a b ≡ true → is_below b c ≡ true → is_below a c ≡ true
 below_trans a b c p q = rw (nat_list_cmp_total.trans a b c (less _ p) (less _ q)) refl
   where
     less : (o : Ordering) → is_lt o ≡ true → o ≡ Less

@@ -1,3 +1,6 @@
 pub mod AscendingLaws
 pub mod KeyLaws
+pub mod PairLaws
+pub mod RangeLaws
+pub mod RuleLaws
 pub mod SortedLaws

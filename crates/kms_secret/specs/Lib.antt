@@ -6,6 +6,7 @@ pub mod Media
 pub mod Metadata
 pub mod Order
 pub mod Payload
+pub mod Ranges
 pub mod Rules
 pub mod Secret
 pub mod Sorted
