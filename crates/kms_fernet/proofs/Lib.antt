@@ -1,5 +1,6 @@
 pub mod CbcLaws
 pub mod KeyLaws
+pub mod LengthLaws
 pub mod Base64Laws
 pub mod TokenLaws
 pub mod PaddingLaws

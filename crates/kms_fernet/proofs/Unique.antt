@@ -71,7 +71,7 @@ padded_bytes : (plain : List ℕ) → IsBytes plain → IsBytes (padded plain)
 unfolding padded
 padded_bytes plain h = append_bytes plain _ h (filled_bytes (padding_len (length plain)) (padding_len (length plain)) (omega arith))
 
-length-padded : (plain : List ℕ) → length (padded plain) ≡ length plain + padding_len (length plain)
+pub length-padded : (plain : List ℕ) → length (padded plain) ≡ length plain + padding_len (length plain)
 unfolding padded
 length-padded plain =
     let a = length-append plain (replicate (padding_len (length plain)) (padding_len (length plain))) in

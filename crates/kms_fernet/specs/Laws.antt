@@ -1,9 +1,9 @@
 -- What holds of tokens.
-use Rattle.std.specs.Prelude.{◌≡◌, ℕ, ◌^◌, ◌<◌, ◌+◌, ◌⊎◌, List, length}
+use Rattle.std.specs.Prelude.{◌≡◌, ℕ, ◌^◌, ◌<◌, ◌≤◌, ◌+◌, ◌*◌, ◌/◌, ◌⊎◌, List, length}
 use Rattle.std.specs.Int.{w64, to_be_bytes}
 use Rattle.base64.specs.GeneralPurpose.{IsBytes}
 use Rattle.kms_aes.specs.Cipher.{IsBytes as IsCountedBytes, IsBlock}
-use Rattle.kms_fernet.specs.Cbc.{padded}
+use Rattle.kms_fernet.specs.Cbc.{padded, padding_len}
 use Rattle.kms_fernet.specs.Key.{IsBase64url}
 use Rattle.kms_fernet.specs.Token.{IsToken, moment_of, iv_of, Opens, OpensToOne, OpensToNone, IsFault}
 use Rattle.kms_fernet.specs.declared.open_fault.OpenFault.{OpenFault}
@@ -51,3 +51,15 @@ pub record FailsOnce (key text : List ℕ) : Type 0 where
 -- whatever the text, one of the two is so
 abbrev pub OpensOrFails : Type 0
 OpensOrFails = (key text : List ℕ) → IsCountedBytes 32 key → OpensOnce key text ⊎ FailsOnce key text
+
+-- how many characters the token of so many plain bytes has: the base64 of the padded text and 57 bytes
+abbrev pub token_len : ℕ → ℕ
+token_len count = (57 + count + padding_len count + 2) / 3 * 4
+
+abbrev pub TokensHaveTheirLength : Type 0
+TokensHaveTheirLength = (key plain iv text : List ℕ) (moment : ℕ) → IsCountedBytes 32 key → IsBytes plain → IsBlock iv
+    → IsToken key moment iv plain text → length text ≡ token_len (length plain)
+
+-- of 1 to 20,000 bytes it has 100 to 26,764
+abbrev pub LengthsAreWithin : Type 0
+LengthsAreWithin = (count : ℕ) → 1 ≤ count → count ≤ 20000 → (100 ≤ token_len count) × (token_len count ≤ 26764)

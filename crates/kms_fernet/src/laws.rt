@@ -1,5 +1,5 @@
 // What holds of tokens.
-ghost use Rattle.kms_fernet.specs.Laws.{OpensOrFails, TokensHaveTheirParts, TokensOpenOnce};
+ghost use Rattle.kms_fernet.specs.Laws.{LengthsAreWithin, OpensOrFails, TokensHaveTheirLength, TokensHaveTheirParts, TokensOpenOnce};
 
 /// What `seal` gives opens to what was sealed. A text opens to one plain text at most, and not where
 /// it has a fault, of which it has one at most.
@@ -17,4 +17,10 @@ pub fn opens_or_fails()
 /// those of the padded plain text.
 pub fn tokens_have_their_parts()
     ensures { TokensHaveTheirParts }
+{}
+
+/// How many characters a token has is known by the number of its plain bytes: 100 to 26,764 of 1 to 20,000 bytes.
+pub fn tokens_have_their_length()
+    ensures length { TokensHaveTheirLength }
+    ensures within { LengthsAreWithin }
 {}
