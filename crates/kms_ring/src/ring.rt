@@ -1,5 +1,5 @@
 // Master keys.
-ghost use Rattle.std.specs.Prelude.{◌≡◌, MatchOption, IfOk, IfErr, true, false};
+ghost use Rattle.std.specs.Prelude.{◌≡◌, ◌≤◌, length, MatchOption, IfOk, IfErr, true, false};
 ghost use Rattle.kms_ring.specs.KeyFile.{AreKeys, IsKeyFile, IsBadLine};
 ghost use Rattle.kms_ring.specs.Ring.{IsUnwrapped, IsUnderNone, IsUnderFirst, IsWrapped};
 
@@ -45,6 +45,15 @@ impl Ring {
                 None => return Ok(Ring { keys }),
             }
         }
+    }
+
+    /// How many keys there are: 1 to 16.
+    pub fn count(&self) -> usize
+        ensures count { result ≡ length self.now }
+        ensures some { 1 ≤ result }
+        ensures keys { AreKeys self.now }
+    {
+        self.keys.as_slice().len()
     }
 
     /// A project key as it is stored: the token under the first key of the project key's text, of the moment in seconds and
