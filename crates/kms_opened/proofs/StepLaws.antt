@@ -1,6 +1,7 @@
 -- To the effects of some operations on a secret there are steps that have them.
 use Rattle.std.proofs.Common.{◌≡◌, ℕ, ◌^◌, ◌<◌, true, ltb, List, [], ◌∷◌, ◌++◌, Option, Some, None, refl, sym, ap, subst, ◌∙◌}
 use Rattle.std.specs.Prelude.{is_some}
+use Rattle.std.specs.List.{AllByRecursion}
 use Rattle.std.proofs.lemmas.Bool.{and_from, or_left, eqb-true, eq-eqb, le-leb}
 use Rattle.kms_world.specs.Effect.{Effect}
 use Rattle.kms_world.specs.Effect as effects
@@ -10,14 +11,16 @@ use Rattle.kms_world.specs.State.{State}
 use Rattle.kms_world.specs.declared.id.Id.{Id}
 use Rattle.kms_world.specs.declared.payload.Payload.{Payload}
 use Rattle.kms_world.specs.declared.secret.SecretRow.{SecretRow}
-use Rattle.kms_record.specs.declared.change.Change.TheVariants.{KeyAdded, SecretPut, PayloadPut, MetadataPut, Deleted}
+use Rattle.kms_record.specs.declared.change.Change.{Change}
+use Rattle.kms_record.specs.declared.change.Change.TheVariants.{KeyAdded, SecretPut, MetadataPut, Deleted}
 use Rattle.kms_record.specs.declared.key.WrappedKey.{WrappedKey}
+use Rattle.kms_record.specs.declared.secret_put.SecretPut.{SecretPut as Put}
 use Rattle.kms_kept.specs.Kept.{Kept, Records, applies, changed, secret_ids}
 use Rattle.kms_kept.specs.Rising.{IsRising}
 use Rattle.kms_record.specs.SecretPut.{row_of, put_of}
 use Rattle.kms_kept.proofs.RisingLaws.{below_all}
 use Rattle.kms_opened.specs.Opened.{KeyOpens, OpensUnder, OpensRow, Opened}
-use Rattle.kms_opened.specs.Steps.{HasStep}
+use Rattle.kms_opened.specs.Steps.{HaveEffects, HasStep, posted_changes}
 use Rattle.kms_opened.proofs.LookUps.{given_of, found_sealed, find_last}
 use Rattle.kms_opened.proofs.Zips.{find_passes}
 
@@ -30,6 +33,32 @@ row_back tag count row id payload metadata =
 
 put_effect : (a b : SecretRow) → a ≡ b → (let f : Option Effect = Some (effects.SecretPut b) in let g : Option Effect = Some (effects.SecretPut a) in f ≡ g)
 put_effect a b e = ap (λ (r : SecretRow). let f : Option Effect = Some (effects.SecretPut r) in f) (sym e)
+
+-- the changes that put a new secret, and then its payload, have these effects
+pub posted_have : (masters : List (List ℕ)) (kept : Kept) → IsRising kept.state → (put : Put) (t number : ℕ) (payload : Payload) (token : List ℕ) → put.id ≡ kept.state.ids → put.id < 2 ^ 62
+    → OpensUnder masters kept.keys put.project number token payload.bytes
+    → HaveEffects masters Records kept (posted_changes put t number payload.media token) (effects.SecretPut (row_of kept.state.tag put) ∷ effects.PayloadPut (id_at kept.state.tag put.id) t payload ∷ [])
+posted_have masters kept rising put t number payload token next left opens =
+    let id = id_at kept.state.tag put.id in
+    let row = row_of kept.state.tag put in
+    let below : AllByRecursion (λ (other : Id). other.0 < id.0) (secret_ids kept.state) =
+    subst (λ (n : ℕ). AllByRecursion (λ (other : Id). other.0 < (id_at kept.state.tag n).0) (secret_ids kept.state)) (sym next) (below_all kept.state.tag kept.state.ids (secret_ids kept.state) rising.secrets)
+    in
+    let found : secret_of id (kept.state.secrets ++ row ∷ []) ≡ Some row = find_last id row kept.state.secrets (eq-eqb _ _ refl) below in (
+      Some (effects.SecretPut row),
+      effects.PayloadPut id t payload ∷ [],
+      and_from _ _ (eq-eqb put.id kept.state.ids next) (le-leb _ _ left),
+      refl,
+      (
+        Some (effects.PayloadPut id t payload),
+        [],
+        rw (found, opens.there) refl,
+        (row, found, payload.bytes, opens, refl),
+        refl,
+        refl,
+      ),
+      refl,
+    )
 
 module _ (masters : List (List ℕ)) (kept : Kept) (s : State) (o : Opened masters kept s) (rising : IsRising kept.state) where
   -- a secret that the plain key manager finds, as it is kept, and the count of its id
@@ -97,29 +126,20 @@ module _ (masters : List (List ℕ)) (kept : Kept) (s : State) (o : Opened maste
   unfolding Puts
   payload_has row t number payload token left id none metadata opens =
       let p = puts row left id none metadata in
-      let next = id_at kept.state.tag kept.state.ids in
-      let put = row_of kept.state.tag (put_of kept.state.ids row) in
-      let found : secret_of next (kept.state.secrets ++ put ∷ []) ≡ Some put = find_last next put kept.state.secrets (eq-eqb _ _ refl) (below_all kept.state.tag kept.state.ids (secret_ids kept.state) rising.secrets) in
+      let put = put_of kept.state.ids row in
+      let changes : List Change = posted_changes put t number payload.media token in
       record {
-        changes = SecretPut (put_of kept.state.ids row) ∷ PayloadPut (record { secret = kept.state.ids; updated = t; media = payload.media; number = number; token = token }) ∷ [];
-        have = (
-          Some (effects.SecretPut row),
-          effects.PayloadPut row.id t payload ∷ [],
-          p.0,
-          put_effect put row p.1,
-          (
-            Some (effects.PayloadPut row.id t payload),
-            [],
-            rw (found, opens.there) refl,
-            (put, found, payload.bytes, opens, ap (λ (i : Id). let e : Option Effect = Some (effects.PayloadPut i t payload) in e) (id ∙ next_of)),
-            refl,
-            refl,
-          ),
-          refl,
-        );
+        changes = changes;
+        have = subst (λ (i : Id). HaveEffects masters Records kept changes (effects.SecretPut row ∷ effects.PayloadPut i t payload ∷ [])) (sym (id ∙ next_of))
+            (subst (λ (r : SecretRow). HaveEffects masters Records kept changes (effects.SecretPut r ∷ effects.PayloadPut (id_at kept.state.tag put.id) t payload ∷ [])) p.1
+            (posted_have masters kept rising put t number payload token refl (subst (λ (z : State). z.ids < 2 ^ 62) o.others left) opens));
       }
 
 -- a new key before the changes of a step
+pub key_have : (masters : List (List ℕ)) (kept : Kept) (key : WrappedKey) (changes : List Change) (effects : List Effect) → applies Records (KeyAdded key) kept ≡ true → KeyOpens masters key
+    → HaveEffects masters Records (changed (KeyAdded key) kept) changes effects → HaveEffects masters Records kept (KeyAdded key ∷ changes) effects
+key_have masters kept key changes effects fits opens have = (None, effects, fits, (opens, refl), have, refl)
+
 pub key_first : (masters : List (List ℕ)) (kept : Kept) (key : WrappedKey) (effects : List Effect) → applies Records (KeyAdded key) kept ≡ true → KeyOpens masters key
     → HasStep masters (changed (KeyAdded key) kept) effects → HasStep masters kept effects
-key_first masters kept key effects fits opens step = record { changes = KeyAdded key ∷ step.changes; have = (None, effects, fits, (opens, refl), step.have, refl) }
+key_first masters kept key effects fits opens step = record { changes = KeyAdded key ∷ step.changes; have = key_have masters kept key step.changes effects fits opens step.have }

@@ -6,11 +6,13 @@ use Rattle.kms_world.specs.Effect as effects
 use Rattle.kms_world.specs.Id.{id_at}
 use Rattle.kms_world.specs.LookUp.{secret_of}
 use Rattle.kms_world.specs.State.{State}
+use Rattle.kms_world.specs.declared.payload.Media.{Media}
 use Rattle.kms_world.specs.declared.payload.Payload.{Payload}
 use Rattle.kms_world.specs.declared.secret.SecretRow.{SecretRow}
 use Rattle.kms_record.specs.declared.change.Change.{Change}
-use Rattle.kms_record.specs.declared.change.Change.TheVariants.{KeyAdded, KeyRewrapped, TokenReplaced, PayloadPut}
+use Rattle.kms_record.specs.declared.change.Change.TheVariants.{KeyAdded, KeyRewrapped, TokenReplaced, SecretPut, PayloadPut}
 use Rattle.kms_record.specs.declared.key.WrappedKey.{WrappedKey}
+use Rattle.kms_record.specs.declared.secret_put.SecretPut.{SecretPut as Put}
 use Rattle.kms_record.specs.ChangeEffect.{effect_of}
 use Rattle.kms_kept.specs.Kept.{Kept, Part, Records, key_of, applies, changed, after_changes}
 use Rattle.kms_kept.specs.Rising.{IsRising}
@@ -54,3 +56,8 @@ pub record LeadTo (masters : List (List ℕ)) (part : Part) (changes : List Chan
 pub record HasStep (masters : List (List ℕ)) (kept : Kept) (effects : List Effect) : Type 0 where
   pub changes : List Change
   pub have : HaveEffects masters Records kept changes effects
+
+-- the changes that put a new secret, and then its payload as a token under the project's key of this number
+abbrev pub posted_changes : Put → (updated number : ℕ) → Media → (token : List ℕ) → List Change
+posted_changes put updated number media token =
+    SecretPut put ∷ PayloadPut (record { secret = put.id; updated = updated; media = media; number = number; token = token }) ∷ []

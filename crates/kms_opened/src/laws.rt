@@ -15,11 +15,13 @@ ghost use Rattle.kms_world.specs.declared.secret.SecretRow.{SecretRow};
 ghost use Rattle.kms_record.specs.declared.change.Change.{Change};
 ghost use Rattle.kms_record.specs.declared.change.Change.TheVariants.{KeyAdded};
 ghost use Rattle.kms_record.specs.declared.key.WrappedKey.{WrappedKey};
+ghost use Rattle.kms_record.specs.declared.secret_put.SecretPut.{SecretPut};
+ghost use Rattle.kms_record.specs.SecretPut.{row_of};
 ghost use Rattle.kms_kept.specs.Kept.{Kept, Part, Records, applies, changed, nothing_kept};
 ghost use Rattle.kms_kept.specs.Rising.{IsGiven, IsRising};
 ghost use Rattle.kms_opened.specs.Made.{made};
 ghost use Rattle.kms_opened.specs.Opened.{KeyOpens, OpensUnder, Opened, HasFittingPayload};
-ghost use Rattle.kms_opened.specs.Steps.{OpensTo, HaveEffects, LeadTo, HasStep};
+ghost use Rattle.kms_opened.specs.Steps.{OpensTo, HaveEffects, LeadTo, HasStep, posted_changes};
 
 /// A change of any kind, in a record or in a snapshot, that applies to what is kept and does this to the opened state,
 /// leads to what opens to the state after that.
@@ -66,6 +68,16 @@ pub fn steps_have_their_effects()
         → OpensUnder masters kept.keys row.project number token payload.bytes → HasStep masters kept (effects.SecretPut row ∷ effects.PayloadPut row.id t payload ∷ []) }
     ensures key { (masters : List (List ℕ)) (kept : Kept) (key : WrappedKey) (effects : List Effect) → applies Records (KeyAdded key) kept ≡ true → KeyOpens masters key
         → HasStep masters (changed (KeyAdded key) kept) effects → HasStep masters kept effects }
+{}
+
+/// The changes that put a new secret, and then its payload as a token under a key that is kept, have the effects of the
+/// secret and of its payload; and a new key that opens may come before the changes of a step.
+pub fn a_posted_payload_has_its_effects()
+    ensures posted { (masters : List (List ℕ)) (kept : Kept) → IsRising kept.state → (put : SecretPut) (t number : ℕ) (payload : Payload) (token : List ℕ) → put.id ≡ kept.state.ids → put.id < 2 ^ 62
+        → OpensUnder masters kept.keys put.project number token payload.bytes
+        → HaveEffects masters Records kept (posted_changes put t number payload.media token) (effects.SecretPut (row_of kept.state.tag put) ∷ effects.PayloadPut (id_at kept.state.tag put.id) t payload ∷ []) }
+    ensures key { (masters : List (List ℕ)) (kept : Kept) (key : WrappedKey) (changes : List Change) (effects : List Effect) → applies Records (KeyAdded key) kept ≡ true → KeyOpens masters key
+        → HaveEffects masters Records (changed (KeyAdded key) kept) changes effects → HaveEffects masters Records kept (KeyAdded key ∷ changes) effects }
 {}
 
 /// An order's secret is made: one secret more, under the next id and with its payload, and the order in its place. All else is as before.
