@@ -143,10 +143,12 @@ module _ (p : Position) (snapshot : Snapshot) (was : History) (s : Standing) (lt
               inl (outlasts s.file file_low (files was) image s placed.current refl same
               (subst (λ (l : List ℕ). IsNoNewer g l (of_file g image)) (sym (file_of g other_low was)) no_newer))
           | inr new ↦
-              inr (overtakes s.file file_low image s (with_snapshot s snapshot) (ap (standing s.file) same ∙ own) (ap (standing g) new ∙ new_stands) refl)
+              inr (overtakes s.file file_low image s (with_snapshot s snapshot) (ap (standing s.file) same ∙ own) (ap (standing g) new.0 ∙ new_stands) refl, new.1)
         ];
     old = r.other s.file apart;
     others = r.others;
+    later = r.later;
+    once = r.once;
     syncs = r.syncs;
   }
 
@@ -159,7 +161,7 @@ module _ (p : Position) (snapshot : Snapshot) (was : History) (s : Standing) (lt
 
   pub checkpoint_fails : {T E D : Type 0} (new : Position) (d : D) (e : E) (now : History) → Renews {T = T} {E = D} (other_file p.file) (file_rest (next_header p snapshot) snapshot.bytes) (Err d) was now
       → Checkpoints {T = T} {E = E} new snapshot (Err e) s was now
-  checkpoint_fails new d e now r = record { throughout = during now (by_standing (Err d) now r).throughout; placed = tt; quiet = tt; rests = tt }
+  checkpoint_fails new d e now r = record { throughout = during now (by_standing (Err d) now r).throughout; placed = tt; quiet = tt; rests = tt; cut = tt }
 
   pub checkpoint_done : {T E D : Type 0} (new : Position) (x y : T) (now : History) → new ≡ moved_to p snapshot → Renews {T = T} {E = D} (other_file p.file) (file_rest (next_header p snapshot) snapshot.bytes) (Ok x) was now
       → Checkpoints {T = T} {E = E} new snapshot (Ok y) s was now
@@ -186,4 +188,5 @@ module _ (p : Position) (snapshot : Snapshot) (was : History) (s : Standing) (lt
         };
         quiet = λ quiet. still_quiet g was now (rested g now _ w.done) last.other quiet;
         rests = rested g now _ w.done;
+        cut = w.cut;
       }

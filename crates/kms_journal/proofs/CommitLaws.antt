@@ -9,6 +9,7 @@ use Rattle.kms_host.specs.declared.call.Call.TheVariants.{OnFile}
 use Rattle.kms_host.specs.declared.call.FileCall.TheVariants.{Wrote, Synced}
 use Rattle.kms_host.proofs.Moments.{throughout_weaker, joined, at_last}
 use Rattle.kms_journal.specs.Standing.{Standing, standing, standing_of, with_framed}
+use Rattle.kms_journal.specs.Cuts.{cuts}
 use Rattle.kms_journal.specs.Device.{IsQuiet, IsQuietStore, HasPlace, IsWriting, WritesThrough}
 use Rattle.kms_journal.specs.Position.{Position, IsPlaced}
 use Rattle.kms_journal.specs.Commit.{IsFramed, IsBeforeOrAfter, Commits}
@@ -64,6 +65,7 @@ module _ (p new : Position) (framed : List ℕ) (was : History) (s : Standing) (
     other = λ f ne. w.other f (λ x. ne ((ends_placed p was s lt placed).in_file ∙ x));
     others = w.others;
     syncs = omega (arith, w.syncs);
+    cuts = w.cuts;
   }
 
   pub first_fails : {T D E : Type 0} (d : D) (x : E) (now : History) → WritesThrough {T = T} {E = D} p.file (p.end + 1) framed (Err d) was now → Commits {T = T} {E = E} p new framed (Err x) s was now
@@ -82,6 +84,7 @@ module _ (p new : Position) (framed : List ℕ) (was : History) (s : Standing) (
     pub other : (g : ℕ) → p.file ≢ g → disk g mid ≡ disk g was
     pub others : others mid ≡ others was
     pub syncs : syncs mid.calls ≤ syncs was.calls + 1
+    pub cuts : cuts mid.calls ≡ cuts was.calls
     pub calls : mid ≡ then_calls was (OnFile p.file (Synced true) ∷ OnFile p.file (Wrote (p.end + 1) framed None) ∷ [])
 
   pub staged : {T E : Type 0} (x : T) (mid : History) → WritesThrough {T = T} {E = E} p.file (p.end + 1) framed (Ok x) was mid → IsStaged mid
@@ -93,6 +96,7 @@ module _ (p new : Position) (framed : List ℕ) (was : History) (s : Standing) (
         other = last.other;
         others = last.others;
         syncs = last.syncs;
+        cuts = last.cuts;
         calls = w.calls;
       }
 
@@ -122,6 +126,7 @@ module _ (p new : Position) (framed : List ℕ) (was : History) (s : Standing) (
     other = λ f ne. let away : p.file ≢ f = λ x. ne ((ends_placed p was s lt placed).in_file ∙ x) in w.other f away ∙ st.other f away;
     others = w.others ∙ st.others;
     syncs = omega (arith, w.syncs, st.syncs);
+    cuts = w.cuts ∙ st.cuts;
   }
 
   both : (mid now : History) → IsStaged mid → Throughout (IsWriting p.file p.end 1 mid) mid now → Throughout (IsBeforeOrAfter s framed was) was now

@@ -88,12 +88,12 @@ module _ (tag : ℕ) (low : tag < 2 ^ 60) (was : History) where
           let join : (o : Option Standing) → standing 0 image.0 ≡ o → standing_of image ≡ newer o None = λ o first. both_are h (λ f ne. r.other f ne ∙ u.disk f) quiet image is o first in
           elim (r.images here image.0 is.file_0) [
             | inl no_newer ↦ inl (join None (still_none 0 (reads 0 mid) image.0 nothing no_newer) ∙ sym none)
-            | inr same ↦ inr (none, join (Some (fresh tag)) (ap (standing 0) same ∙ fresh_stands tag low))
+            | inr same ↦ inr (none, join (Some (fresh tag)) (ap (standing 0) same.0 ∙ fresh_stands tag low))
           ];
       store = λ s is. no_store s is;
       other = λ f ne. r.other f ne ∙ u.disk f;
       others = r.others ∙ u.others;
-      syncs = omega (arith, r.syncs, u.syncs);
+      syncs = omega (arith, r.syncs, r.once, u.syncs);
     }
 
     during : (mid now : History) → Throughout (IsUntouched was) was mid → Throughout (IsRenewing 0 (fresh_rest tag) mid) mid now → Throughout (IsNoneOrFresh tag was) was now

@@ -11,6 +11,7 @@ use Rattle.kms_host.specs.declared.call.Call.TheVariants.{OnFile}
 use Rattle.kms_host.specs.declared.call.FileCall.TheVariants.{Wrote, CutTo, Synced}
 use Rattle.kms_host.proofs.DiskLaws.{only_image, torn_cut, disk_there, disk_elsewhere}
 use Rattle.kms_host.proofs.Moments.{goes_on, throughout_weaker, at_last}
+use Rattle.kms_journal.specs.Cuts.{cuts}
 use Rattle.kms_journal.specs.Device.{IsQuiet, IsUntouched, HasPlace}
 use Rattle.kms_journal.specs.Emptying.{IsNoNewer, IsEmptying, IsFirstClear, ClearsFirst, Empties}
 use Rattle.kms_journal.proofs.CurrentLaws.{too_short}
@@ -41,7 +42,9 @@ module _ (file : ℕ) (was : History) where
     no_newer = λ quiet image may. same_newer file (reads file was) image (only_image (reads file was) image (subst (λ (d : Disk). MayLeave d image) (u.disk file ∙ quiet) may));
     other = λ f ne. u.disk f;
     others = u.others;
-    syncs = omega (arith, u.syncs);
+    later = omega (arith, u.cuts);
+    once = omega (arith, u.cuts);
+    syncs = omega (arith, u.syncs, u.cuts);
   }
 
   pub reading : (mid : History) → Throughout (IsUntouched was) was mid → Throughout (IsEmptying file was) was mid
@@ -51,11 +54,12 @@ module _ (file : ℕ) (was : History) where
   clear_already x mid t some ne = record {
     throughout = reading mid t;
     syncs = (at_last (IsUntouched was) was mid t).syncs;
+    cuts = (at_last (IsUntouched was) was mid t).cuts;
     done = inl ((at_last (IsUntouched was) was mid t).disk file, some, ne);
   }
 
   pub reading_fails : {T E : Type 0} (e : E) (mid : History) → Throughout (IsUntouched was) was mid → ClearsFirst {T = T} {E = E} file (Err e) was mid
-  reading_fails e mid t = record { throughout = reading mid t; syncs = (at_last (IsUntouched was) was mid t).syncs; done = tt }
+  reading_fails e mid t = record { throughout = reading mid t; syncs = (at_last (IsUntouched was) was mid t).syncs; cuts = (at_last (IsUntouched was) was mid t).cuts; done = tt }
 
   -- the write of the first byte
   module _ (mid now : History) (left : Option (List ℕ)) (t : Throughout (IsUntouched was) was mid) (first : (length (reads file was) ≡ 0) ⊎ (get_or (reads file was) 0 0 ≡ 1)) (is : now ≡ then_call mid (OnFile file (Wrote 0 (0 ∷ []) left))) where
@@ -67,6 +71,12 @@ module _ (file : ℕ) (was : History) where
         ap (disk file) is ∙ disk_there mid file (Wrote 0 (0 ∷ []) left)
         ∙ ap (λ (d : Disk). after_write d 0 (0 ∷ []) (unwrap_or left (put d.reads 0 (0 ∷ [])))) ((at_last (IsUntouched was) was mid t).disk file)
 
+    same_syncs : syncs now.calls ≡ syncs was.calls
+    same_syncs = ap (λ (h : History). syncs h.calls) is ∙ last.syncs
+
+    same_cuts : cuts now.calls ≡ cuts was.calls
+    same_cuts = ap (λ (h : History). cuts h.calls) is ∙ last.cuts
+
     writing : IsEmptying file was now
     writing = record {
       no_newer = λ quiet image may.
@@ -75,22 +85,22 @@ module _ (file : ℕ) (was : History) where
           overwritten file (reads file was) d first refl refl refl image (subst (λ (x : Disk). MayLeave x image) is_d may);
       other = λ f ne. ap (disk f) is ∙ disk_elsewhere mid file f (Wrote 0 (0 ∷ []) left) ne ∙ last.disk f;
       others = ap others is ∙ last.others;
-      syncs = let same : syncs now.calls ≡ syncs mid.calls = ap (λ (h : History). syncs h.calls) is in omega (arith, same, last.syncs);
+      later = omega (arith, same_cuts);
+      once = omega (arith, same_cuts);
+      syncs = omega (arith, same_syncs, same_cuts);
     }
 
     pub during_write : Throughout (IsEmptying file was) was now
     during_write = goes_on (IsEmptying file was) was mid now (OnFile file (Wrote 0 (0 ∷ []) left)) (reading mid t) is writing
 
-    same_syncs : syncs now.calls ≡ syncs was.calls
-    same_syncs = ap (λ (h : History). syncs h.calls) is ∙ last.syncs
-
     pub write_fails : {T E : Type 0} (e : E) → ClearsFirst {T = T} {E = E} file (Err e) was now
-    write_fails e = record { throughout = during_write; syncs = same_syncs; done = tt }
+    write_fails e = record { throughout = during_write; syncs = same_syncs; cuts = same_cuts; done = tt }
 
     pub cleared : {T E : Type 0} (x : T) → left ≡ None → ClearsFirst {T = T} {E = E} file (Ok x) was now
     cleared x all = record {
       throughout = during_write;
       syncs = same_syncs;
+      cuts = same_cuts;
       done = inr (made ∙ ap (λ (l : Option (List ℕ)). after_write (disk file was) 0 (0 ∷ []) (unwrap_or l (put (reads file was) 0 (0 ∷ [])))) all, first);
     }
 
@@ -105,12 +115,15 @@ module _ (file : ℕ) (was : History) where
   }
 
   -- the cut behind it
-  module _ (mid now : History) (left : Option (List ℕ)) (k : Throughout (IsEmptying file was) was mid) (same : syncs mid.calls ≡ syncs was.calls) (first : IsFirstClear file was mid) (is : now ≡ then_call mid (OnFile file (CutTo 1 left))) where
+  module _ (mid now : History) (left : Option (List ℕ)) (k : Throughout (IsEmptying file was) was mid) (same : syncs mid.calls ≡ syncs was.calls) (uncut : cuts mid.calls ≡ cuts was.calls) (first : IsFirstClear file was mid) (is : now ≡ then_call mid (OnFile file (CutTo 1 left))) where
     before : IsEmptying file was mid
     before = at_last (IsEmptying file was) was mid k
 
     cut_disk : disk file now ≡ after_cut (disk file mid) 1 (unwrap_or left (take 1 (reads file mid)))
     cut_disk = ap (disk file) is ∙ disk_there mid file (CutTo 1 left)
+
+    one_cut : cuts now.calls ≡ cuts was.calls + 1
+    one_cut = ap (λ (h : History). cuts h.calls) is ∙ ap (λ (n : ℕ). n + 1) uncut
 
     pub cut_no_newer : IsQuiet file was → (image : List ℕ) → MayLeave (disk file now) image → IsNoNewer file (reads file was) image
     cut_no_newer quiet image may = elim first [
@@ -133,14 +146,16 @@ module _ (file : ℕ) (was : History) where
       no_newer = cut_no_newer;
       other = λ f ne. ap (disk f) is ∙ disk_elsewhere mid file f (CutTo 1 left) ne ∙ before.other f ne;
       others = ap others is ∙ before.others;
-      syncs = let more : syncs now.calls ≡ syncs mid.calls = ap (λ (h : History). syncs h.calls) is in omega (arith, more, same);
+      later = omega (arith, one_cut);
+      once = omega (arith, one_cut);
+      syncs = let more : syncs now.calls ≡ syncs mid.calls = ap (λ (h : History). syncs h.calls) is in omega (arith, more, same, one_cut);
     }
 
     pub during_cut : Throughout (IsEmptying file was) was now
     during_cut = goes_on (IsEmptying file was) was mid now (OnFile file (CutTo 1 left)) k is cutting
 
     pub cut_fails : {T E : Type 0} (e : E) → Empties {T = T} {E = E} file (Err e) was now
-    cut_fails e = record { throughout = during_cut; done = tt }
+    cut_fails e = record { throughout = during_cut; done = tt; cut = tt }
 
     -- what is left of it
     pub one_byte : left ≡ None → (byte : ℕ) × (byte ≢ 1) × (reads file now ≡ byte ∷ [])
@@ -157,15 +172,20 @@ module _ (file : ℕ) (was : History) where
 
     -- and the sync
     module _ (end : History) (ok : Bool) (all : left ≡ None) (synced : end ≡ then_call now (OnFile file (Synced ok))) where
+      pub cut_then : cuts end.calls ≡ cuts was.calls + 1
+      cut_then = ap (λ (h : History). cuts h.calls) synced ∙ one_cut
+
       syncing : IsEmptying file was end
       syncing = record {
         no_newer = λ quiet image may. by_answer ok quiet image (subst (λ (d : Disk). MayLeave d image) (ap (disk file) synced ∙ disk_there now file (Synced ok)) may);
         other = λ f ne. ap (disk f) synced ∙ disk_elsewhere now file f (Synced ok) ne ∙ (at_last (IsEmptying file was) was now during_cut).other f ne;
         others = ap others synced ∙ (at_last (IsEmptying file was) was now during_cut).others;
+        later = omega (arith, cut_then);
+        once = omega (arith, cut_then);
         syncs =
             let more : syncs end.calls ≡ syncs now.calls + 1 = ap (λ (h : History). syncs h.calls) synced in
             let cut : syncs now.calls ≡ syncs mid.calls = ap (λ (h : History). syncs h.calls) is in
-            omega (arith, more, cut, same);
+            omega (arith, more, cut, same, cut_then);
       }
         where
           by_answer : (ok : Bool) → IsQuiet file was → (image : List ℕ) → MayLeave (cond ok (at_rest (reads file now)) (disk file now)) image → IsNoNewer file (reads file was) image
@@ -178,7 +198,7 @@ module _ (file : ℕ) (was : History) where
       during_sync = goes_on (IsEmptying file was) was now end (OnFile file (Synced ok)) during_cut synced syncing
 
       pub sync_fails : {T E : Type 0} (e : E) → Empties {T = T} {E = E} file (Err e) was end
-      sync_fails e = record { throughout = during_sync; done = tt }
+      sync_fails e = record { throughout = during_sync; done = tt; cut = tt }
 
     pub emptied : {T E : Type 0} (x : T) (end : History) → left ≡ None → end ≡ then_call now (OnFile file (Synced true)) → Empties {T = T} {E = E} file (Ok x) was end
     emptied x end all synced =
@@ -186,6 +206,7 @@ module _ (file : ℕ) (was : History) where
         record {
           throughout = during_sync end true all synced;
           done = (byte.0, byte.1, ap (disk file) synced ∙ disk_there now file (Synced true) ∙ ap at_rest byte.2);
+          cut = cut_then end true all synced;
         }
 
 -- the file is cut, and not synced yet
@@ -194,6 +215,7 @@ pub record IsCutBehind (file : ℕ) (was now : History) : Type 0 where
   pub left : Option (List ℕ)
   pub throughout : Throughout (IsEmptying file was) was mid
   pub same : syncs mid.calls ≡ syncs was.calls
+  pub uncut : cuts mid.calls ≡ cuts was.calls
   pub first : IsFirstClear file was mid
   pub is : now ≡ then_call mid (OnFile file (CutTo 1 left))
   pub all : left ≡ None

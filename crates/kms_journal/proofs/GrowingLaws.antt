@@ -11,11 +11,12 @@ use Rattle.kms_host.specs.declared.call.Call.TheVariants.{OnFile}
 use Rattle.kms_host.specs.declared.call.FileCall.TheVariants.{Wrote}
 use Rattle.kms_host.proofs.DiskLaws.{disk_there, disk_elsewhere}
 use Rattle.kms_host.proofs.Moments.{started, goes_on, joined, throughout_weaker, at_last}
+use Rattle.kms_journal.specs.Cuts.{cuts}
 use Rattle.kms_journal.specs.Renewal.{IsEnd, IsGrowing, Appends}
 use Rattle.kms_journal.proofs.FileLaws.{still_attached}
 
 growing_nothing : (file : ℕ) (was : History) → IsGrowing file was was
-growing_nothing file was = record { base = refl; outside = λ o. o; shortest = refl; other = λ f ne. refl; others = refl; syncs = refl }
+growing_nothing file was = record { base = refl; outside = λ o. o; shortest = refl; other = λ f ne. refl; others = refl; syncs = refl; cuts = refl }
 
 growing_then : (file : ℕ) (was mid now : History) → IsGrowing file was mid → IsGrowing file mid now → IsGrowing file was now
 growing_then file was mid now a b = record {
@@ -25,6 +26,7 @@ growing_then file was mid now a b = record {
   other = λ f ne. b.other f ne ∙ a.other f ne;
   others = b.others ∙ a.others;
   syncs = b.syncs ∙ a.syncs;
+  cuts = b.cuts ∙ a.cuts;
 }
 
 pub grown_then : (file : ℕ) (was mid now : History) → Throughout (IsGrowing file was) was mid → Throughout (IsGrowing file mid) mid now → Throughout (IsGrowing file was) was now
@@ -45,6 +47,7 @@ module _ (file end : ℕ) (piece : List ℕ) (was now : History) (left : Option 
     other = λ f ne. ap (disk f) is ∙ disk_elsewhere was file f (Wrote end piece left) ne;
     others = ap others is;
     syncs = ap (λ (h : History). syncs h.calls) is;
+    cuts = ap (λ (h : History). cuts h.calls) is;
   }
 
   during : Throughout (IsGrowing file was) was now

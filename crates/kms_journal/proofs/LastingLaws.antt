@@ -49,5 +49,5 @@ pub checkpoint_stopped : IsCheckpointStopped
 checkpoint_stopped p snapshot s was stop image result start end rest during is same opens =
     elim (during.images rest.quiet image is) [
       | inl stands ↦ inl (found_again _ result start end (ap standing_of same ∙ stands) rest.placed.whole opens.answer)
-      | inr stands ↦ inr (found_again _ result start end (ap standing_of same ∙ stands) refl opens.answer)
+      | inr stands ↦ inr (found_again _ result start end (ap standing_of same ∙ stands.0) refl opens.answer)
     ]

@@ -15,6 +15,7 @@ pub mod LastingLaws
 pub mod NoNewerLaws
 pub mod OpeningLaws
 pub mod PlacedLaws
+pub mod RaisedLaws
 pub mod ReadingLaws
 pub mod RecordLaws
 pub mod NewestLaws

@@ -9,17 +9,19 @@ use Rattle.kms_host.specs.declared.call.Call.TheVariants.{OnFile}
 use Rattle.kms_host.specs.declared.call.FileCall.TheVariants.{Measured, Read}
 use Rattle.kms_host.proofs.DiskLaws.{disk_same}
 use Rattle.kms_host.proofs.Moments.{started, goes_on, joined, throughout_weaker, at_last}
+use Rattle.kms_journal.specs.Cuts.{cuts}
 use Rattle.kms_journal.specs.Device.{IsQuietStore, IsUntouched}
 use Rattle.kms_journal.proofs.FileLaws.{still_attached}
 
 pub untouched : (was : History) → IsUntouched was was
-untouched was = record { disk = λ f. refl; others = refl; syncs = refl }
+untouched was = record { disk = λ f. refl; others = refl; syncs = refl; cuts = refl }
 
 pub untouched_then : (was mid now : History) → IsUntouched was mid → IsUntouched mid now → IsUntouched was now
 untouched_then was mid now a b = record {
   disk = λ f. b.disk f ∙ a.disk f;
   others = b.others ∙ a.others;
   syncs = b.syncs ∙ a.syncs;
+  cuts = b.cuts ∙ a.cuts;
 }
 
 measured : (was now : History) (file : ℕ) (size : Option ℕ) → now ≡ then_call was (OnFile file (Measured size)) → IsUntouched was now
@@ -27,6 +29,7 @@ measured was now file size is = record {
   disk = λ f. ap (disk f) is ∙ disk_same was file f (Measured size) (λ d. refl);
   others = ap others is;
   syncs = ap (λ (h : History). syncs h.calls) is;
+  cuts = ap (λ (h : History). cuts h.calls) is;
 }
 
 read : (was now : History) (file at room : ℕ) (bytes : Option (List ℕ)) → now ≡ then_call was (OnFile file (Read at room bytes)) → IsUntouched was now
@@ -34,6 +37,7 @@ read was now file at room bytes is = record {
   disk = λ f. ap (disk f) is ∙ disk_same was file f (Read at room bytes) (λ d. refl);
   others = ap others is;
   syncs = ap (λ (h : History). syncs h.calls) is;
+  cuts = ap (λ (h : History). cuts h.calls) is;
 }
 
 -- while the files are read

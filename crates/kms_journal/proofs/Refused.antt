@@ -241,7 +241,7 @@ mark_before_the_snapshot t =
     let image : IsImage now (store (0 ∷ []), 1 ∷ next_rest 9) = record { file_0 = is_image (store (0 ∷ [])); file_1 = may } in
     elim ((at_last (IsOldOrNew (fresh 5) (snapshot 7) was) was now t).images (quiet_at_first (store (0 ∷ []))) (store (0 ∷ []), 1 ∷ next_rest 9) image) [
       | inl is ↦ clash 0 9 (ap snapshot_byte (sym is ∙ with_next 9)) (lit< tt)
-      | inr is ↦ clash 7 9 (ap snapshot_byte (sym is ∙ with_next 9)) (lit< tt)
+      | inr is ↦ clash 7 9 (ap snapshot_byte (sym is.0 ∙ with_next 9)) (lit< tt)
     ]
 
 -- It cuts the file that is current before the new one is whole.
@@ -255,3 +255,25 @@ old_file_cut t =
 -- It is acknowledged, and the new file has the generation of the old one.
 pub generation_not_raised : (new : Position) (now : History) → new.generation ≡ 1 → Checkpoints {T = Unit {0}} {E = StoreFault} new (snapshot 7) (Ok tt) (fresh 5) (with_file (store (0 ∷ [])) []) now → ⊥
 generation_not_raised new now is c = clash 1 2 (sym is ∙ ap (λ (p : Position). p.generation) c.placed.here) (lit< tt)
+
+-- It cuts a file twice, or syncs before it cuts.
+pub cut_twice : Throughout (IsOldOrNew (fresh 5) (snapshot 7) (with_file (store (0 ∷ [])) [])) (with_file (store (0 ∷ [])) [])
+    (with_file (store (0 ∷ [])) (OnFile 1 (CutTo 1 None) ∷ OnFile 1 (CutTo 1 None) ∷ []))
+    → ⊥
+cut_twice t =
+    let was = with_file (store (0 ∷ [])) [] in
+    let now = with_file (store (0 ∷ [])) (OnFile 1 (CutTo 1 None) ∷ OnFile 1 (CutTo 1 None) ∷ []) in
+    omega (arith, (at_last (IsOldOrNew (fresh 5) (snapshot 7) was) was now t).once)
+
+pub synced_before_the_cut : Throughout (IsOldOrNew (fresh 5) (snapshot 7) (with_file (store (0 ∷ [])) [])) (with_file (store (0 ∷ [])) []) (with_file (store (0 ∷ [])) (OnFile 1 (Synced true) ∷ [])) → ⊥
+synced_before_the_cut t =
+    let was = with_file (store (0 ∷ [])) [] in
+    let now = with_file (store (0 ∷ [])) (OnFile 1 (Synced true) ∷ []) in
+    omega (arith, (at_last (IsOldOrNew (fresh 5) (snapshot 7) was) was now t).syncs)
+
+-- A commit cuts a file.
+pub cut_in_a_commit : Throughout (IsBeforeOrAfter (fresh 5) (framed 7) (with_file (store (0 ∷ [])) [])) (with_file (store (0 ∷ [])) []) (with_file (store (0 ∷ [])) (OnFile 1 (CutTo 1 None) ∷ [])) → ⊥
+cut_in_a_commit t =
+    let was = with_file (store (0 ∷ [])) [] in
+    let now = with_file (store (0 ∷ [])) (OnFile 1 (CutTo 1 None) ∷ []) in
+    omega (arith, (at_last (IsBeforeOrAfter (fresh 5) (framed 7) was) was now t).cuts)

@@ -11,6 +11,7 @@ use Rattle.kms_host.specs.declared.call.Call.TheVariants.{OnFile}
 use Rattle.kms_host.specs.declared.call.FileCall.TheVariants.{Synced}
 use Rattle.kms_host.proofs.DiskLaws.{only_image, disk_there, disk_elsewhere}
 use Rattle.kms_host.proofs.Moments.{goes_on, joined, throughout_weaker, at_last}
+use Rattle.kms_journal.specs.Cuts.{cuts}
 use Rattle.kms_journal.specs.Device.{IsQuiet, HasPlace, IsWriting, WritesThrough}
 use Rattle.kms_journal.specs.Emptying.{IsNoNewer, IsEmptying, Empties}
 use Rattle.kms_journal.specs.Renewal.{IsEnd, IsGrowing, Appends, IsRenewing, Renews}
@@ -20,10 +21,10 @@ use Rattle.kms_journal.proofs.NoNewerLaws.{none_of, nothing_newer}
 module _ (file : ℕ) (rest : List ℕ) (was : History) where
   -- The file is emptied.
   emptying : (h : History) → IsEmptying file was h → IsRenewing file rest was h
-  emptying h e = record { images = λ quiet image may. inl (e.no_newer quiet image may); other = e.other; others = e.others; syncs = omega (arith, e.syncs) }
+  emptying h e = record { images = λ quiet image may. inl (e.no_newer quiet image may); other = e.other; others = e.others; later = e.later; once = e.once; syncs = omega (arith, e.syncs, e.later, e.once) }
 
   pub empty_fails : {T E D : Type 0} (d : D) (e : E) (now : History) → Empties {T = T} {E = D} file (Err d) was now → Renews {T = T} {E = E} file rest (Err e) was now
-  empty_fails d e now x = record { throughout = throughout_weaker (IsEmptying file was) (IsRenewing file rest was) was now emptying x.throughout; done = tt }
+  empty_fails d e now x = record { throughout = throughout_weaker (IsEmptying file was) (IsRenewing file rest was) was now emptying x.throughout; done = tt; cut = tt }
 
   -- it is one byte, and no commit mark that is set
   pub record IsBegun (now : History) : Type 0 where
@@ -34,6 +35,7 @@ module _ (file : ℕ) (rest : List ℕ) (was : History) where
     pub other : (f : ℕ) → file ≢ f → disk f now ≡ disk f was
     pub others : others now ≡ others was
     pub syncs : syncs now.calls ≤ syncs was.calls + 1
+    pub cuts : cuts now.calls ≡ cuts was.calls + 1
 
   pub begun : {T E : Type 0} (x : T) (now : History) → Empties {T = T} {E = E} file (Ok x) was now → IsBegun now
   begun x now e =
@@ -45,7 +47,8 @@ module _ (file : ℕ) (rest : List ℕ) (was : History) where
         on_disk = e.done.2;
         other = last.other;
         others = last.others;
-        syncs = last.syncs;
+        syncs = omega (arith, last.syncs, e.cut);
+        cuts = e.cut;
       }
 
   pub begun_end : (mid : History) → IsAttached was → IsBegun mid → IsEnd file 1 mid
@@ -63,7 +66,9 @@ module _ (file : ℕ) (rest : List ℕ) (was : History) where
         inl (nothing_newer file (reads file was) image (none_of file image (λ e. b.clear (sym byte ∙ e))));
     other = λ f ne. g.other f ne ∙ b.other f ne;
     others = g.others ∙ b.others;
-    syncs = omega (arith, g.syncs, b.syncs);
+    later = omega (arith, g.cuts, b.cuts);
+    once = omega (arith, g.cuts, b.cuts);
+    syncs = omega (arith, g.syncs, g.cuts, b.syncs, b.cuts);
   }
 
   during_growth : (mid now : History) → IsBegun mid → Throughout (IsGrowing file mid) mid now → Throughout (IsRenewing file rest was) was now
@@ -71,7 +76,7 @@ module _ (file : ℕ) (rest : List ℕ) (was : History) where
       joined (IsRenewing file rest was) was mid now b.during (throughout_weaker (IsGrowing file mid) (IsRenewing file rest was) mid now (λ h x. growing mid h b x) g)
 
   pub append_fails : {T E D : Type 0} (d : D) (e : E) (piece : List ℕ) (mid now : History) → IsBegun mid → Appends {T = T} {E = D} file piece (Err d) mid now → Renews {T = T} {E = E} file rest (Err e) was now
-  append_fails d e piece mid now b a = record { throughout = during_growth mid now b a.throughout; done = tt }
+  append_fails d e piece mid now b a = record { throughout = during_growth mid now b a.throughout; done = tt; cut = tt }
 
   pub record IsFilled (now : History) : Type 0 where
     pub first : ℕ
@@ -80,6 +85,7 @@ module _ (file : ℕ) (rest : List ℕ) (was : History) where
     pub last : IsRenewing file rest was now
     pub reads_are : reads file now ≡ first ∷ rest
     pub syncs : syncs now.calls ≤ syncs was.calls + 1
+    pub cuts : cuts now.calls ≡ cuts was.calls + 1
 
   pub filled : {T E : Type 0} (x : T) (mid now : History) → IsBegun mid → Appends {T = T} {E = E} file rest (Ok x) mid now → IsFilled now
   filled x mid now b a =
@@ -91,6 +97,7 @@ module _ (file : ℕ) (rest : List ℕ) (was : History) where
         last = growing mid now b g;
         reads_are = a.done ∙ ap (λ (d : Disk). d.reads ++ rest) b.on_disk;
         syncs = omega (arith, g.syncs, b.syncs);
+        cuts = g.cuts ∙ b.cuts;
       }
 
   pub filled_attached : (mid : History) → IsAttached was → IsFilled mid → IsAttached mid
@@ -102,20 +109,28 @@ module _ (file : ℕ) (rest : List ℕ) (was : History) where
     images = λ quiet image may. by_answer ok quiet image (subst (λ (d : Disk). MayLeave d image) (ap (disk file) is ∙ disk_there mid file (Synced ok)) may);
     other = λ g ne. ap (disk g) is ∙ disk_elsewhere mid file g (Synced ok) ne ∙ f.last.other g ne;
     others = ap others is ∙ f.last.others;
-    syncs = let more : syncs now.calls ≡ syncs mid.calls + 1 = ap (λ (h : History). syncs h.calls) is in omega (arith, more, f.syncs);
+    later = omega (arith, same, f.cuts);
+    once = omega (arith, same, f.cuts);
+    syncs = let more : syncs now.calls ≡ syncs mid.calls + 1 = ap (λ (h : History). syncs h.calls) is in omega (arith, more, f.syncs, same, f.cuts);
   }
     where
-      by_answer : (ok : Bool) → IsQuiet file was → (image : List ℕ) → MayLeave (cond ok (at_rest (reads file mid)) (disk file mid)) image → IsNoNewer file (reads file was) image ⊎ (image ≡ 1 ∷ rest)
+      same : cuts now.calls ≡ cuts mid.calls
+      same = ap (λ (h : History). cuts h.calls) is
+
+      by_answer : (ok : Bool) → IsQuiet file was → (image : List ℕ) → MayLeave (cond ok (at_rest (reads file mid)) (disk file mid)) image → IsNoNewer file (reads file was) image ⊎ ((image ≡ 1 ∷ rest) × (cuts now.calls ≡ cuts was.calls + 1))
       by_answer true quiet image may =
           let byte : get_or image 0 0 ≡ f.first = ap (λ (l : List ℕ). get_or l 0 0) (only_image (reads file mid) image may ∙ f.reads_are) in
           inl (nothing_newer file (reads file was) image (none_of file image (λ e. f.clear (sym byte ∙ e))))
-      by_answer false quiet image may = f.last.images quiet image may
+      by_answer false quiet image may = elim (f.last.images quiet image may) [
+        | inl no_newer ↦ inl no_newer
+        | inr new ↦ inr (new.0, same ∙ new.1)
+      ]
 
   during_sync : (mid now : History) (ok : Bool) → IsFilled mid → now ≡ then_call mid (OnFile file (Synced ok)) → Throughout (IsRenewing file rest was) was now
   during_sync mid now ok f is = goes_on (IsRenewing file rest was) was mid now (OnFile file (Synced ok)) f.during is (syncing mid now ok f is)
 
   pub sync_fails : {T E : Type 0} (e : E) (mid now : History) → IsFilled mid → now ≡ then_call mid (OnFile file (Synced false)) → Renews {T = T} {E = E} file rest (Err e) was now
-  sync_fails e mid now f is = record { throughout = during_sync mid now false f is; done = tt }
+  sync_fails e mid now f is = record { throughout = during_sync mid now false f is; done = tt; cut = tt }
 
   pub record IsSynced (now : History) : Type 0 where
     pub first : ℕ
@@ -125,6 +140,7 @@ module _ (file : ℕ) (rest : List ℕ) (was : History) where
     pub other : (f : ℕ) → file ≢ f → disk f now ≡ disk f was
     pub others : others now ≡ others was
     pub syncs : syncs now.calls ≤ syncs was.calls + 2
+    pub cuts : cuts now.calls ≡ cuts was.calls + 1
 
   pub synced : (mid now : History) → IsFilled mid → now ≡ then_call mid (OnFile file (Synced true)) → IsSynced now
   synced mid now f is =
@@ -138,6 +154,7 @@ module _ (file : ℕ) (rest : List ℕ) (was : History) where
         other = last.other;
         others = last.others;
         syncs = omega (arith, more, f.syncs);
+        cuts = ap (λ (h : History). cuts h.calls) is ∙ f.cuts;
       }
 
   pub can_set : (mid : History) → IsAttached was → IsSynced mid → HasPlace file 0 mid
@@ -152,12 +169,14 @@ module _ (file : ℕ) (rest : List ℕ) (was : History) where
         let long : 0 < length image = omega (arith, torn.no_shorter) in
         let whole : image ≡ get_or image 0 0 ∷ rest = drop_more image 0 0 long ∙ ap (λ (l : List ℕ). get_or image 0 0 ∷ l) torn.after in
         elim (cases_eq (get_or image 0 0) 1) [
-          | inl set ↦ inr (whole ∙ ap (λ (n : ℕ). n ∷ rest) set)
+          | inl set ↦ inr (whole ∙ ap (λ (n : ℕ). n ∷ rest) set, w.cuts ∙ s.cuts)
           | inr ne ↦ inl (nothing_newer file (reads file was) image (none_of file image ne))
         ];
     other = λ f ne. w.other f ne ∙ s.other f ne;
     others = w.others ∙ s.others;
-    syncs = omega (arith, w.syncs, s.syncs);
+    later = omega (arith, w.cuts, s.cuts);
+    once = omega (arith, w.cuts, s.cuts);
+    syncs = omega (arith, w.syncs, s.syncs, w.cuts, s.cuts);
   }
 
   during_set : (mid now : History) → IsSynced mid → Throughout (IsWriting file 0 1 mid) mid now → Throughout (IsRenewing file rest was) was now
@@ -165,8 +184,9 @@ module _ (file : ℕ) (rest : List ℕ) (was : History) where
       joined (IsRenewing file rest was) was mid now s.during (throughout_weaker (IsWriting file 0 1 mid) (IsRenewing file rest was) mid now (λ h x. setting mid h s x) w)
 
   pub renewed : {T E : Type 0} (result : Result T E) (mid now : History) → IsSynced mid → WritesThrough file 0 (1 ∷ []) result mid now → Renews file rest result was now
-  renewed (Err e) mid now s w = record { throughout = during_set mid now s w.throughout; done = tt }
+  renewed (Err e) mid now s w = record { throughout = during_set mid now s w.throughout; done = tt; cut = tt }
   renewed (Ok x) mid now s w = record {
     throughout = during_set mid now s w.throughout;
     done = w.done ∙ ap (λ (d : Disk). at_rest (put d.reads 0 (1 ∷ []))) s.on_disk;
+    cut = (at_last (IsWriting file 0 1 mid) mid now w.throughout).cuts ∙ s.cuts;
   }

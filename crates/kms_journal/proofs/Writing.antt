@@ -9,6 +9,7 @@ use Rattle.kms_host.specs.declared.call.Call.TheVariants.{OnFile}
 use Rattle.kms_host.specs.declared.call.FileCall.TheVariants.{Wrote, Synced}
 use Rattle.kms_host.proofs.DiskLaws.{only_image, is_image, torn_write, torn_nothing, write_reads, disk_there, disk_elsewhere}
 use Rattle.kms_host.proofs.Moments.{started, goes_on}
+use Rattle.kms_journal.specs.Cuts.{cuts}
 use Rattle.kms_journal.specs.Device.{HasPlace, IsQuiet, IsWriting}
 
 module _ (file at : ℕ) (piece : List ℕ) where
@@ -20,6 +21,7 @@ module _ (file at : ℕ) (piece : List ℕ) where
     other = λ f ne. refl;
     others = refl;
     syncs = omega arith;
+    cuts = refl;
   }
 
   begun : (was now : History) (left : Option (List ℕ)) → HasPlace file at was → now ≡ then_call was (OnFile file (Wrote at piece left)) → IsWriting file at (length piece) was now
@@ -33,6 +35,7 @@ module _ (file at : ℕ) (piece : List ℕ) where
         other = λ f ne. ap (disk f) is ∙ disk_elsewhere was file f (Wrote at piece left) ne;
         others = ap others is;
         syncs = let same : syncs now.calls ≡ syncs was.calls = ap (λ (h : History). syncs h.calls) is in omega (arith, same);
+        cuts = ap (λ (h : History). cuts h.calls) is;
       }
 
   -- the first call
@@ -77,6 +80,7 @@ module _ (file at : ℕ) (piece : List ℕ) where
     other = λ f ne. ap (disk f) is ∙ disk_elsewhere mid file f (Synced ok) ne ∙ d.written.last.other f ne;
     others = ap others is ∙ d.written.last.others;
     syncs = let more : syncs now.calls ≡ syncs mid.calls + 1 = ap (λ (h : History). syncs h.calls) is in omega (arith, more, d.written.syncs);
+    cuts = ap (λ (h : History). cuts h.calls) is ∙ d.written.last.cuts;
   }
     where
       torn_of : (ok : Bool) → IsQuiet file was → (image : List ℕ) → MayLeave (cond ok (at_rest (reads file mid)) (disk file mid)) image → Torn at (length piece) (reads file was) image

@@ -8,6 +8,7 @@ use Rattle.kms_host.specs.Store.{others, syncs}
 use Rattle.kms_host.specs.declared.call.Call.{Call}
 use Rattle.kms_host.specs.declared.call.Call.TheVariants.{OnFile}
 use Rattle.kms_host.specs.declared.call.FileCall.TheVariants.{Wrote, Synced}
+use Rattle.kms_journal.specs.Cuts.{cuts}
 use Rattle.kms_journal.specs.Device.{IsQuiet, IsQuietStore}
 use Rattle.kms_journal.specs.Position.{Position, IsPlaced}
 use Rattle.kms_journal.specs.Standing.{Standing, standing_of, with_framed, record_len}
@@ -18,13 +19,14 @@ pub record IsFramed (framed : List ℕ) : Type 0 where
   pub clear : slice_index framed (length framed - 1) ≡ 0
 
 -- Each crash image stands for what the store stood for before, with this record more or without it. The file that isn't
--- current is as it was. Nothing was called but on files.
+-- current is as it was. Nothing was called but on files, and no file was cut.
 pub record IsBeforeOrAfter (s : Standing) (framed : List ℕ) (was h : History) : Type 0 where
   pub images : IsQuietStore was → (image : List ℕ × List ℕ) → IsImage h image
       → (standing_of image ≡ Some s) ⊎ (standing_of image ≡ Some (with_framed s framed))
   pub other : (f : ℕ) → s.file ≢ f → disk f h ≡ disk f was
   pub others : others h ≡ others was
   pub syncs : syncs h.calls ≤ syncs was.calls + 2
+  pub cuts : cuts h.calls ≡ cuts was.calls
 
 -- The calls of a commit that was done, the newest first: the framed record is written after the last commit mark and
 -- synced, and only then that commit mark is set by a write of its own and synced.

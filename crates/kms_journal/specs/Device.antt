@@ -7,6 +7,7 @@ use Rattle.kms_host.specs.Moment.{Throughout, then_calls}
 use Rattle.kms_host.specs.Store.{IsAttached, others, syncs}
 use Rattle.kms_host.specs.declared.call.Call.TheVariants.{OnFile}
 use Rattle.kms_host.specs.declared.call.FileCall.TheVariants.{Wrote, Synced}
+use Rattle.kms_journal.specs.Cuts.{cuts}
 
 -- nothing is pending on the file
 abbrev pub IsQuiet : ℕ → History → Type 0
@@ -21,6 +22,7 @@ pub record IsUntouched (was h : History) : Type 0 where
   pub disk : (f : ℕ) → disk f h ≡ disk f was
   pub others : others h ≡ others was
   pub syncs : syncs h.calls ≡ syncs was.calls
+  pub cuts : cuts h.calls ≡ cuts was.calls
 
 -- a place within the file
 pub record HasPlace (file at : ℕ) (h : History) : Type 0 where
@@ -34,6 +36,7 @@ pub record IsWriting (file at n : ℕ) (was h : History) : Type 0 where
   pub other : (f : ℕ) → file ≢ f → disk f h ≡ disk f was
   pub others : others h ≡ others was
   pub syncs : syncs h.calls ≤ syncs was.calls + 1
+  pub cuts : cuts h.calls ≡ cuts was.calls
 
 -- the piece is written, and synced where the answer is Ok
 pub record WritesThrough {T E : Type 0} (file at : ℕ) (piece : List ℕ) (result : Result T E) (was now : History) : Type 0 where

@@ -4,6 +4,7 @@ pub mod Checkpoint
 pub mod Commit
 pub mod Create
 pub mod Current
+pub mod Cuts
 pub mod Device
 pub mod Emptying
 pub mod Fault
@@ -12,6 +13,7 @@ pub mod Header
 pub mod Lasting
 pub mod Pieces
 pub mod Position
+pub mod Raised
 pub mod Recovery
 pub mod Renewal
 pub mod Spelling

@@ -108,7 +108,7 @@ impl Journal {
 
     /// Adds a record. `framed` is its length in 4 bytes, big-endian, its bytes, and a clear commit mark, a 0. It is
     /// written after the last commit mark and synced, and then that commit mark is set by a write of its own and
-    /// synced.
+    /// synced. No file is cut.
     ///
     /// From an Ok on nothing is pending on the current file, and if nothing was pending on the other one before the
     /// commit, each crash image has the record. A fault is answered exactly where a call on the store's files failed. The
@@ -139,7 +139,7 @@ impl Journal {
     ///
     /// The other file is made one clear commit mark and synced, the header of the next generation, the snapshot and a clear
     /// commit mark are written and synced, and then the first commit mark is set by a write of its own and synced. The file
-    /// that was current isn't touched. There are three syncs at most. If nothing was pending before, each crash image has
+    /// that was current isn't touched. There is one cut, and after it there are three syncs at most. If nothing was pending before, each crash image has
     /// what the store stood for, or the snapshot; from an Ok on it has the snapshot. A fault is answered exactly where a call
     /// on the store's files failed. The journal has failed then: open the store anew.
     ///
