@@ -5,10 +5,12 @@ use Rattle.kms_kept.specs.Kept.{Kept}
 use Rattle.kms_store.specs.ReadyStep.{TaggedStep}
 use Rattle.kms_store.specs.Staged.{Staging}
 
--- what is kept with all staged steps, these, and for how many changes more there is memory
+-- What is kept with all staged steps, these, the number of all steps since the store was created, 2^64 - 1 at most, and for how
+-- many changes more there is memory.
 pub record Stored : Type 0 where
   pub kept : Kept
   pub staging : Staging
+  pub steps : ℕ
   pub spare : ℕ
 
 -- The step is the one that was reserved last: all memory that it needs was taken, and it is spelled.

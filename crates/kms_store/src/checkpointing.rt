@@ -45,7 +45,7 @@ pub fn checkpoint<H: Host>(
     requires placed { WhereTold (H.history host.old) (λ h. (s : Standing) × IsPlaced journal.old h s) }
     ensures told { Tells (H.history host.old) (H.history host.new) (λ was now. (n : ℕ)
         → StandsAt tables.now.kept journal.old was n → IsCountOf steps n
-        → TurnsOver tables.now.kept n (checkpoint_syncs limit journal.old) journal.new result was now) }
+        → TurnsOver tables.now.kept n (checkpoint_syncs limit journal.old) journal.old journal.new result was now) }
     ensures few { OnOk result (HasFewRecords limit tables.now.kept steps journal.new) }
     ensures working { OnOk result (journal.new.failed ≡ false) }
     ensures fails { OnErr result (journal.new ≡ record journal.old { failed = true; chain = None }) }

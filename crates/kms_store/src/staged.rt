@@ -1,17 +1,16 @@
 // Steps that wait to be settled, in one buffer: the record that the journal takes.
-ghost use Rattle.std.specs.Prelude.{◌≡◌, ℕ, ◌<◌, ◌≤◌, ◌+◌, ◌^◌, ◌++◌, [], ◌∷◌, length, drop, Ok, IfOk, OnOk, OnErr, is_err, false, true, vec_len, vec_capacity};
+ghost use Rattle.std.specs.Prelude.{◌≡◌, ◌<◌, ◌≤◌, ◌+◌, ◌^◌, ◌++◌, [], ◌∷◌, length, drop, IfOk, OnOk, OnErr, is_err, false, true, vec_len, vec_capacity};
 ghost use Rattle.std.specs.Int.{w32, to_be_bytes};
 ghost use Rattle.kms_host.specs.Faults.{HasCause};
 ghost use Rattle.kms_host.specs.History.{Tells, WhereTold, Stops};
 ghost use Rattle.kms_host.specs.declared.call.Count.TheVariants as counts;
 ghost use Rattle.kms_record.specs.Fields.{u32_bytes};
 ghost use Rattle.kms_record.specs.Grammar.{IsStep, IsStepInRange, step_bytes};
-ghost use Rattle.kms_kept.specs.Kept.{Kept};
 ghost use Rattle.kms_journal.specs.Commit.{frame, Commits};
 ghost use Rattle.kms_journal.specs.Fault.{Fails};
 ghost use Rattle.kms_journal.specs.Position.{IsPlaced};
 ghost use Rattle.kms_journal.specs.Standing.{Standing};
-ghost use Rattle.kms_store.specs.Settling.{IsOpened, Settles};
+ghost use Rattle.kms_store.specs.Settling.{committed, staged_record};
 ghost use Rattle.kms_store.specs.Staged.{nothing_staged, with_reserved, with_staged};
 
 use kms_host::Host;
@@ -86,7 +85,7 @@ fn commit<H: Host>(
     ensures steps { drop 8 buffer.new.items ≡ drop 8 buffer.old.items }
     ensures len { length buffer.new.items ≡ length buffer.old.items }
     ensures capacity { vec_capacity buffer.old ≤ vec_capacity buffer.new }
-    ensures working { OnOk result (journal.new.failed ≡ false) }
+    ensures moved { OnOk result (journal.new ≡ record journal.old { end = journal.old.end + length (frame (u32_bytes count ++ drop 8 buffer.old.items)); chain = None }) }
     ensures fails { OnErr result (journal.new ≡ record journal.old { failed = true; chain = None }) }
     ensures cause { HasCause counts.Store (H.faults host.old) (H.faults host.new) result }
     ensures failed { Tells (H.history host.old) (H.history host.new) (Fails (is_err result)) }
@@ -149,8 +148,8 @@ impl Staged {
         self.count += 1;
     }
 
-    // No steps any more.
-    fn clear(&mut self)
+    /// No steps any more.
+    pub(crate) fn clear(&mut self)
         ensures { self.new ≡ nothing_staged }
     {
         self.buffer.truncate(8);
@@ -158,33 +157,25 @@ impl Staged {
         self.count = 0;
     }
 
-    /// Adds the staged steps to the store, as one record, with two syncs. It takes no memory. With none it makes no
-    /// call. After an Ok none is staged, and after a fault they are as before.
-    pub(crate) fn settle<H: Host>(
+    /// Adds the staged steps to the store, as one record, with two syncs. It takes no memory. They are staged still.
+    pub(crate) fn commit<H: Host>(
         &mut self,
         host: &mut H,
         journal: &mut Journal,
     ) -> Result<(), StoreFault>
         requires working { journal.old.failed ≡ false }
-        requires placed { 0 < self.old.count → WhereTold (H.history host.old) (λ h. (s : Standing) × IsPlaced journal.old h s) }
-        ensures told { Tells (H.history host.old) (H.history host.new) (λ was now. (kept settled : Kept) (steps : ℕ)
-            → IsOpened kept self.old journal.old was settled steps
-            → Settles kept self.old self.new journal.new result settled steps was now) }
-        ensures ok { OnOk result (self.new ≡ nothing_staged) }
-        ensures err { OnErr result (self.new ≡ self.old) }
-        ensures working { OnOk result (journal.new.failed ≡ false) }
+        requires placed { WhereTold (H.history host.old) (λ h. (s : Standing) × IsPlaced journal.old h s) }
+        ensures told { Tells (H.history host.old) (H.history host.new) (λ was now. (s : Standing)
+            → IsPlaced journal.old was s → Commits journal.old journal.new (staged_record self.old) result s was now) }
+        ensures same { self.new ≡ self.old }
+        ensures short { length self.old.steps < 2 ^ 27 }
+        ensures few { self.old.count < 2 ^ 32 }
+        ensures moved { OnOk result (journal.new ≡ committed journal.old self.old) }
         ensures fails { OnErr result (journal.new ≡ record journal.old { failed = true; chain = None }) }
-        ensures idle { self.old.count ≡ 0 → (result ≡ Ok tt) × (host.new ≡ host.old) × (journal.new ≡ journal.old) }
         ensures cause { HasCause counts.Store (H.faults host.old) (H.faults host.new) result }
         ensures failed { Tells (H.history host.old) (H.history host.new) (Fails (is_err result)) }
         ensures stops { Stops (H.wanted host.old) (H.wanted host.new) (H.history host.old) (H.history host.new) }
     {
-        if self.count == 0 {
-            self.clear();
-            return Ok(());
-        }
-        commit(host, journal, &mut self.buffer, self.count)?;
-        self.clear();
-        Ok(())
+        commit(host, journal, &mut self.buffer, self.count)
     }
 }

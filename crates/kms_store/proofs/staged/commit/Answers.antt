@@ -1,6 +1,6 @@
 use Rattle.std.proofs.Common.{◌∙◌, ap, ℕ, ◌^◌, ◌<◌, length, drop, arith, length-drop, take}
 use Rattle.kms_host.proofs.Moments.{tells_weaker}
-use Rattle.kms_store.proofs.SettleLaws.{framed_is, commits_so, staged_is_framed, reopened}
+use Rattle.kms_store.proofs.SettleLaws.{framed_is, commits_so, moved_so, staged_is_framed, reopened}
 use Rattle.kms_store.proofs.staged.commit.Goals as goal
 
 pub commit-committed-requires-clause-framed : goal.commit-committed-requires-clause-framed
@@ -19,3 +19,7 @@ pub returns-clause-told : goal.returns-clause-told
 returns-clause-told g c =
     tells_weaker _ c.commit-committed.ensures.told
     (λ was now k s placed. commits_so _ _ _ _ _ s was now (c.deref.ensures.value ∙ framed_is c.args.count (drop 8 c.args.buffer.now.items) _ c.close.ensures.items) (k s placed))
+
+pub returns-clause-moved : goal.returns-clause-moved
+returns-clause-moved g c =
+    moved_so c.commit-committed.result c.args.journal.now c.commit-committed.new.self _ _ (c.deref.ensures.value ∙ framed_is c.args.count (drop 8 c.args.buffer.now.items) _ c.close.ensures.items) c.commit-committed.ensures.moved
