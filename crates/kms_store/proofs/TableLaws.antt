@@ -1,7 +1,10 @@
 -- A search by halves finds what a search from the front finds.
-use Rattle.std.proofs.Common.{IfSome, ◌&&◌, ◌-◌, ◌≡◌, ℕ, suc, ◌<◌, ◌≤◌, Bool, true, false, cond, ltb, List, [], ◌∷◌, ◌++◌, map, length, get_or, Option, Some, None, refl, sym, ap, subst, ◌∙◌, arith, inl, inr}
+use Rattle.std.proofs.Common.{IfSome, ◌&&◌, ◌+◌, ◌-◌, ◌≡◌, ℕ, suc, ◌<◌, ◌≤◌, Bool, true, false, cond, ltb, List, [], ◌∷◌, ◌++◌, map, length, get_or, Option, Some, None, refl, sym, ap, subst, ◌∙◌, arith, inl, inr}
 use Prim.Native.Nat.{zero}
 use Rattle.std.specs.Prelude.{find, slice_get, nat_lt}
+use Rattle.std.specs.Global.{Vec}
+use Rattle.std.specs.Vec.{with_item}
+use Rattle.std.proofs.Math.Seq.{map-set_same}
 use Rattle.std.specs.List.{AllByRecursion, position, position_or_len, remove, list_all}
 use Rattle.std.proofs.Math.ListN.{set}
 use Rattle.std.specs.List.Sorted.{IsNonDecreasingBy, IsPartitionPoint}
@@ -9,11 +12,12 @@ use Rattle.std.proofs.lemmas.Bool.{cases_Bool, eqb-true, eq-eqb, ne_eqb, ltb-tru
 use Rattle.std.proofs.lemmas.List.Sums.{position_or_len_is}
 use Rattle.std.proofs.lemmas.List.Folds.{find_at}
 use Rattle.std.proofs.lemmas.List.Quantifiers.{position-Some}
+use Rattle.std.proofs.lemmas.List.{length-map}
 use Rattle.std.proofs.lemmas.Option.{same_Some, slice_get-get_or, slice_get_past}
 use Rattle.kms_world.specs.declared.id.Id.{Id}
 use Rattle.kms_world.specs.Effect.{put_row, drop_rows, change_rows}
 use Rattle.kms_world.specs.Id.{is_id}
-use Rattle.kms_store.specs.Table.{Rises, placed}
+use Rattle.kms_store.specs.Table.{Rises, placed, IsIndexed}
 
 module _ {X : Type 0} (id_of : X → Id) where
   above : (low : ℕ) (xs : List X) (j : ℕ) (d : X) → AllByRecursion (λ (other : Id). low < other.0) (map id_of xs) → j < length xs → low < (id_of (get_or xs j d)).0
@@ -154,6 +158,30 @@ pub place_within : {X : Type 0} (p : X → Bool) (xs : List X) (at : Option ℕ)
 place_within p xs None is = tt
 place_within p [] (Some i) is = absurd cc
 place_within p (x ∷ xs) (Some i) is = (position-Some p (x ∷ xs) i x (sym is)).0
+
+-- ---- the ids beside the rows
+
+module _ {X Y : Type 0} (f : X → Y) where
+  place_map : (p : Y → Bool) (xs : List X) → position_or_len p (map f xs) ≡ position_or_len (λ x. p (f x)) xs
+  place_map p [] = refl
+  place_map p (x ∷ xs) = elim (cases_Bool (p (f x))) [ inl t ↦ rw t refl | inr n ↦ rw n (ap (λ (k : ℕ). 1 + k) (place_map p xs)) ]
+
+  pub position_map : (p : Y → Bool) (xs : List X) → position p (map f xs) ≡ position (λ x. p (f x)) xs
+  position_map p xs = rw (place_map p xs, length-map xs f) refl
+
+  pub map_remove : (xs : List X) (i : ℕ) → remove (map f xs) i ≡ map f (remove xs i)
+  map_remove [] zero = refl
+  map_remove [] (suc i) = refl
+  map_remove (x ∷ xs) zero = refl
+  map_remove (x ∷ xs) (suc i) = ap (λ (ys : List Y). f x ∷ ys) (map_remove xs i)
+
+-- a row takes the place of one with its id
+pub still_indexed : {X : Type 0} (id_of : X → Id) (ids : Vec Id) (rows : Vec X) (spare at : ℕ) (new d : X) → IsIndexed id_of ids rows spare → id_of new ≡ id_of (get_or rows.items at d) → IsIndexed id_of ids (with_item rows at new) spare
+still_indexed id_of ids rows spare at new d indexed same = record {
+  same = indexed.same ∙ sym (map-set_same id_of rows.items at new d same);
+  ids_fit = indexed.ids_fit;
+  rows_fit = indexed.rows_fit;
+}
 
 -- ---- the last id
 

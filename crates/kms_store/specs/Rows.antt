@@ -33,10 +33,10 @@ pub record AreOrdered (r : Rows) : Type 0 where
 
 -- each table has memory for so many rows more
 pub record HasSpace (n : ℕ) (r : Rows) : Type 0 where
-  pub secrets : vec_len r.secrets + n ≤ vec_capacity r.secrets
-  pub containers : vec_len r.containers + n ≤ vec_capacity r.containers
+  pub secrets : n ≤ r.secrets.spare
+  pub containers : n ≤ r.containers.spare
   pub consumers : vec_len r.consumers + n ≤ vec_capacity r.consumers
-  pub orders : vec_len r.orders + n ≤ vec_capacity r.orders
+  pub orders : n ≤ r.orders.spare
   pub acls : vec_len r.acls + n ≤ vec_capacity r.acls
   pub quotas : vec_len r.quotas + n ≤ vec_capacity r.quotas
   pub keys : vec_len r.keys + n ≤ vec_capacity r.keys

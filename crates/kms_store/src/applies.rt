@@ -15,7 +15,7 @@ ghost use Rattle.kms_store.specs.Table.{Rises};
 use crate::keys::{has_another, is_latest};
 use crate::row::Row;
 use crate::rows::Rows;
-use crate::table::are_below;
+use crate::table::{Table, are_below};
 use crate::{KeptSecret, Part};
 use kms_record::{
     AclPut, Change, ConsumerAdded, ConsumerDropped, ContainerPut, KeyDropped, OrderPut,
@@ -144,19 +144,19 @@ impl Rows {
     }
 
     // The id is above all these rows' ids, and no row of another kind has it.
-    fn is_free<R: Row>(&self, own: &[R], id: Id) -> bool
+    fn is_free<R: Row>(&self, own: &Table<R>, id: Id) -> bool
         requires ordered { AreOrdered self.now }
-        requires rises { Rises (map R.id_of own.now) }
-        ensures { result ≡ (list_all (λ i. nat_lt i.0 id.0) (map R.id_of own.now) && not (is_taken (kept_in self.now).state id)) }
+        requires rises { Rises (map R.id_of own.now.items) }
+        ensures { result ≡ (list_all (λ i. nat_lt i.0 id.0) (map R.id_of own.now.items) && not (is_taken (kept_in self.now).state id)) }
     {
-        are_below(own, id) && !self.is_taken(id)
+        are_below(own.as_slice(), id) && !self.is_taken(id)
     }
 
-    fn is_new<R: Row>(&self, part: Part, own: &[R], count: u64) -> bool
+    fn is_new<R: Row>(&self, part: Part, own: &Table<R>, count: u64) -> bool
         requires ordered { AreOrdered self.now }
-        requires rises { Rises (map R.id_of own.now) }
+        requires rises { Rises (map R.id_of own.now.items) }
         requires count { count < 2 ^ 62 }
-        ensures { result ≡ is_new (part_of part) (kept_in self.now).state (map R.id_of own.now) count }
+        ensures { result ≡ is_new (part_of part) (kept_in self.now).state (map R.id_of own.now.items) count }
     {
         match part {
             Part::Records => count == self.ids && count < 1 << 62,
@@ -186,7 +186,7 @@ impl Rows {
             OrderPutState::Pending => true,
             OrderPutState::Active(id) => {
                 (id < self.ids || id == order)
-                    && is_named_here(&self.orders, self.id(id), self.id(order))
+                    && is_named_here(self.orders.as_slice(), self.id(id), self.id(order))
             }
             OrderPutState::Error(_) => true,
         }
@@ -248,7 +248,7 @@ impl Rows {
     {
         self.key(&put.project, put.number).is_some()
             && has_another(&self.keys, &put.project, put.number)
-            && are_apart(&self.secrets, &put.project, put.number)
+            && are_apart(self.secrets.as_slice(), &put.project, put.number)
     }
 
     fn may_add_consumer(&self, put: &ConsumerAdded) -> bool

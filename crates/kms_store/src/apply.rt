@@ -14,7 +14,7 @@ ghost use Rattle.kms_store.specs.Rows.{kept_in, with_state, AreOrdered, HasSpace
 
 use crate::ready::Prepared;
 use crate::rows::Rows;
-use crate::table::{self, drop_id, push_reserved};
+use crate::table::push_reserved;
 use crate::{KeptSecret, edits, keys};
 use kms_record::{
     AclPut, Change, ConsumerAdded, ConsumerDropped, KeyDropped, MetadataPut, OrderPut, PayloadPut,
@@ -26,7 +26,7 @@ use std::alloc::Global;
 impl Rows {
     // Where the tables have their memory from.
     fn allocator(&self) -> Global {
-        *self.secrets.allocator()
+        *self.keys.allocator()
     }
 
     // How many ids are given where a row has this id.
@@ -52,7 +52,7 @@ impl Rows {
     {
         let row = put.into_row(self.allocator(), self.tag);
         self.ids = self.ids_with(row.id);
-        push_reserved(&mut self.secrets, KeptSecret::new(row));
+        self.secrets.push(KeptSecret::new(row));
     }
 
     fn put_payload(&mut self, put: PayloadPut)
@@ -97,7 +97,7 @@ impl Rows {
         ensures space { LeavesSpace self.old self.new }
     {
         self.ids = self.ids_with(row.id);
-        table::put(&mut self.containers, row);
+        self.containers.put(row);
     }
 
     fn add_consumer(&mut self, put: ConsumerAdded)
@@ -149,7 +149,7 @@ impl Rows {
     {
         let row = put.into_row(self.tag);
         self.ids = self.ids_with(row.id);
-        table::put(&mut self.orders, row);
+        self.orders.put(row);
     }
 
     fn put_quota(&mut self, put: QuotaPut)
@@ -170,10 +170,10 @@ impl Rows {
         ensures space { LeavesSpace self.old self.new }
     {
         let id = self.id(count);
-        drop_id(&mut self.secrets, id);
-        drop_id(&mut self.containers, id);
+        self.secrets.drop_id(id);
+        self.containers.drop_id(id);
         edits::drop_consumers(&mut self.consumers, id);
-        drop_id(&mut self.orders, id);
+        self.orders.drop_id(id);
         edits::drop_acl(&mut self.acls, id);
     }
 

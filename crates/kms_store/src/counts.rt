@@ -24,7 +24,7 @@ use crate::applies::is_consumer;
 use crate::ready::Prepared;
 use crate::row::Row;
 use crate::rows::Rows;
-use crate::table::found;
+use crate::table::Table;
 use crate::tally::{ProjectRows, add, rows_in, take};
 use kms_record::{Change, ConsumerAdded, ConsumerDropped, OrderPut, SecretPut};
 use kms_world::{ConsumerRow, ContainerRow, Id, Name, NoMemory, QuotaKind, Text};
@@ -49,42 +49,42 @@ fn few<R>(rows: &Vec<R>)
 }
 
 // A row of this project is put last.
-fn count_new<R: Row>(entries: &mut Vec<ProjectRows>, rows: &Vec<R>, project: &Name)
+fn count_new<R: Row>(entries: &mut Vec<ProjectRows>, rows: &Table<R>, project: &Name)
     requires tally { Tallies (λ p. rows_of R.project_of p rows.now.items) entries.old.items }
     requires space { vec_len entries.old < vec_capacity entries.old }
-    requires few { vec_len rows.now < vec_capacity rows.now }
+    requires few { 0 < rows.now.spare }
     ensures tally { (row : R) → R.project_of row ≡ project.now → Tallies (λ p. rows_of R.project_of p (rows.now.items ++ row ∷ [])) entries.new.items }
     ensures len { vec_len entries.new ≤ vec_len entries.old + 1 }
     ensures capacity { vec_capacity entries.old ≤ vec_capacity entries.new }
 {
-    few(rows);
+    rows.few();
     add(entries, project, 1);
 }
 
 // The row with this id goes.
-fn count_drop<R: Row>(entries: &mut Vec<ProjectRows>, rows: &Vec<R>, id: Id)
+fn count_drop<R: Row>(entries: &mut Vec<ProjectRows>, rows: &Table<R>, id: Id)
     requires rises { Rises (map R.id_of rows.now.items) }
     requires tally { Tallies (λ p. rows_of R.project_of p rows.now.items) entries.old.items }
     ensures tally { Tallies (λ p. rows_of R.project_of p (drop_rows (λ r. is_id id (R.id_of r)) rows.now.items)) entries.new.items }
     ensures len { vec_len entries.new ≤ vec_len entries.old }
     ensures capacity { vec_capacity entries.old ≤ vec_capacity entries.new }
 {
-    if let Some(old) = found(rows, id) {
+    if let Some(old) = rows.found(id) {
         take(entries, &old.project(), 1);
     }
 }
 
 // A row of this id and project is put in the place of the one with its id, or else last.
-fn count_put<R: Row>(entries: &mut Vec<ProjectRows>, rows: &Vec<R>, id: Id, project: &Name)
+fn count_put<R: Row>(entries: &mut Vec<ProjectRows>, rows: &Table<R>, id: Id, project: &Name)
     requires rises { Rises (map R.id_of rows.now.items) }
     requires tally { Tallies (λ p. rows_of R.project_of p rows.now.items) entries.old.items }
     requires space { vec_len entries.old < vec_capacity entries.old }
-    requires few { vec_len rows.now < vec_capacity rows.now }
+    requires few { 0 < rows.now.spare }
     ensures tally { (row : R) → R.id_of row ≡ id → R.project_of row ≡ project.now → Tallies (λ p. rows_of R.project_of p (put_row (λ r. is_id (R.id_of row) (R.id_of r)) row rows.now.items)) entries.new.items }
     ensures len { vec_len entries.new ≤ vec_len entries.old + 1 }
     ensures capacity { vec_capacity entries.old ≤ vec_capacity entries.new }
 {
-    few(rows);
+    rows.few();
     count_drop(entries, rows, id);
     add(entries, project, 1);
 }

@@ -10,44 +10,47 @@ ghost use Rattle.kms_store.specs.Table.{Rises};
 
 use crate::KeptSecret;
 use crate::applies::is_consumer;
-use crate::table::{find_at, put_at};
+use crate::table::{Table, put_at};
 use kms_world::{AclRow, Bytes, ConsumerRow, Id, Name, Pairs, Payload, QuotaRow, Text};
 
 /// The secret with this id gets a payload.
 pub(crate) fn set_payload(
-    secrets: &mut [KeptSecret],
+    secrets: &mut Table<KeptSecret>,
     id: Id,
     updated: u64,
     number: u32,
     payload: Payload,
 )
-    requires { Rises (map (λ r. r.id) secrets.old) }
-    ensures { secrets.new ≡ change_rows (λ r. is_id id r.id) (with_payload updated (sealed number payload)) secrets.old }
+    requires { Rises (map (λ r. r.id) secrets.old.items) }
+    ensures items { secrets.new.items ≡ change_rows (λ r. is_id id r.id) (with_payload updated (sealed number payload)) secrets.old.items }
+    ensures spare { secrets.new.spare ≡ secrets.old.spare }
 {
-    if let Some(at) = find_at(secrets, id) {
-        let secret = &mut secrets[at];
+    if let Some(at) = secrets.find_at(id) {
+        let secret = &mut secrets.rows[at];
         secret.set_payload(updated, number, payload);
     }
 }
 
 /// The secret with this id gets metadata.
-pub(crate) fn set_metadata(secrets: &mut [KeptSecret], id: Id, updated: u64, pairs: Pairs)
-    requires { Rises (map (λ r. r.id) secrets.old) }
-    ensures { secrets.new ≡ change_rows (λ r. is_id id r.id) (with_metadata updated pairs) secrets.old }
+pub(crate) fn set_metadata(secrets: &mut Table<KeptSecret>, id: Id, updated: u64, pairs: Pairs)
+    requires { Rises (map (λ r. r.id) secrets.old.items) }
+    ensures items { secrets.new.items ≡ change_rows (λ r. is_id id r.id) (with_metadata updated pairs) secrets.old.items }
+    ensures spare { secrets.new.spare ≡ secrets.old.spare }
 {
-    if let Some(at) = find_at(secrets, id) {
-        let secret = &mut secrets[at];
+    if let Some(at) = secrets.find_at(id) {
+        let secret = &mut secrets.rows[at];
         secret.set_metadata(updated, pairs);
     }
 }
 
 /// The token of the secret with this id gets another in its place.
-pub(crate) fn replace_token(secrets: &mut [KeptSecret], id: Id, number: u32, token: Bytes)
-    requires { Rises (map (λ r. r.id) secrets.old) }
-    ensures { secrets.new ≡ change_rows (λ r. is_id id r.id) (token_replaced (number ∷ token)) secrets.old }
+pub(crate) fn replace_token(secrets: &mut Table<KeptSecret>, id: Id, number: u32, token: Bytes)
+    requires { Rises (map (λ r. r.id) secrets.old.items) }
+    ensures items { secrets.new.items ≡ change_rows (λ r. is_id id r.id) (token_replaced (number ∷ token)) secrets.old.items }
+    ensures spare { secrets.new.spare ≡ secrets.old.spare }
 {
-    if let Some(at) = find_at(secrets, id) {
-        let secret = &mut secrets[at];
+    if let Some(at) = secrets.find_at(id) {
+        let secret = &mut secrets.rows[at];
         secret.replace_token(number, token);
     }
 }

@@ -7,7 +7,7 @@ ghost use Rattle.kms_store.specs.Table.{Rises};
 
 use crate::KeptSecret;
 use crate::keys::key_in;
-use crate::table::found;
+use crate::table::Table;
 use kms_record::WrappedKey;
 use kms_world::{AclRow, ConsumerRow, ContainerRow, Id, Name, NoMemory, OrderRow, QuotaRow};
 use std::alloc::Global;
@@ -17,10 +17,10 @@ use std::alloc::Global;
 pub(crate) struct Rows {
     pub(crate) tag: u64,
     pub(crate) ids: u64,
-    pub(crate) secrets: Vec<KeptSecret>,
-    pub(crate) containers: Vec<ContainerRow>,
+    pub(crate) secrets: Table<KeptSecret>,
+    pub(crate) containers: Table<ContainerRow>,
     pub(crate) consumers: Vec<ConsumerRow>,
-    pub(crate) orders: Vec<OrderRow>,
+    pub(crate) orders: Table<OrderRow>,
     pub(crate) acls: Vec<AclRow>,
     pub(crate) quotas: Vec<QuotaRow>,
     pub(crate) keys: Vec<WrappedKey>,
@@ -52,10 +52,10 @@ impl Rows {
         Rows {
             tag,
             ids,
-            secrets: Vec::new(alloc),
-            containers: Vec::new(alloc),
+            secrets: Table::new(alloc),
+            containers: Table::new(alloc),
             consumers: Vec::new(alloc),
-            orders: Vec::new(alloc),
+            orders: Table::new(alloc),
             acls: Vec::new(alloc),
             quotas: Vec::new(alloc),
             keys: Vec::new(alloc),
@@ -82,21 +82,21 @@ impl Rows {
         requires { AreOrdered self.now }
         ensures { option_copied result ≡ secret_of id self.now.secrets.items }
     {
-        found(&self.secrets, id)
+        self.secrets.found(id)
     }
 
     pub(crate) fn container(&self, id: Id) -> Option<&ContainerRow>
         requires { AreOrdered self.now }
         ensures { option_copied result ≡ container_of id self.now.containers.items }
     {
-        found(&self.containers, id)
+        self.containers.found(id)
     }
 
     pub(crate) fn order(&self, id: Id) -> Option<&OrderRow>
         requires { AreOrdered self.now }
         ensures { option_copied result ≡ order_of id self.now.orders.items }
     {
-        found(&self.orders, id)
+        self.orders.found(id)
     }
 
     pub(crate) fn acl(&self, target: Id) -> Option<&AclRow>

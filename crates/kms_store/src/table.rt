@@ -1,38 +1,156 @@
-// Tables: rows whose ids rise, and rows without ids.
-ghost use Rattle.std.specs.Prelude.{◌≡◌, ◌<◌, ◌≤◌, ◌+◌, ◌++◌, ◌∷◌, [], map, find, IfSome, option_copied, vec_len, vec_capacity, length, nat_lt, nat_le};
+// Tables whose rows have ids that rise, and rows that are put into a list.
+ghost use Rattle.std.specs.Prelude.{◌≡◌, ◌<◌, ◌≤◌, ◌+◌, ◌-◌, ◌^◌, ◌++◌, ◌∷◌, [], map, find, set, IfSome, Some, OnOk, option_copied, vec_len, vec_capacity, length, nat_lt, nat_le};
 ghost use Rattle.std.specs.List.{position, list_all};
 ghost use Rattle.kms_world.specs.Effect.{put_row, drop_rows};
 ghost use Rattle.kms_world.specs.Id.{is_id};
 ghost use Rattle.kms_store.specs.Table.{Rises, placed};
 
 use crate::row::Row;
-use kms_world::Id;
+use kms_world::{Id, NoMemory};
+use std::alloc::Global;
+use std::marker::Model;
 
-/// The place of the row with this id, by halves.
-pub(crate) fn find_at<R: Row>(rows: &[R], id: Id) -> Option<usize>
-    requires { Rises (map R.id_of rows.now) }
-    ensures { result ≡ position (λ r. is_id id (R.id_of r)) rows.now }
+/// Rows with ids, in order of creation. The ids stand beside them once more, close together, so that a look-up by halves
+/// reads few lines of memory. Contracts see the rows, and for how many more there is memory.
+#[derive(Drop)]
+pub(crate) struct Table<R: Row> {
+    pub(crate) ids: Vec<Id>,
+    pub(crate) rows: Vec<R>,
+    pub(crate) spare: usize,
+}
+
+impl<R: Row> Model for Table<R> {
+    ghost use Rattle.kms_store.specs.Table.{Tabular, IsIndexed};
+
+    ghost Value = { Tabular R };
+
+    ghost view = { λ t. record { items = t.rows.items; spare = t.spare } };
+
+    ghost invariant = { λ t. IsIndexed R.id_of t.ids t.rows t.spare };
+}
+
+// The place of an id, by halves.
+fn place_of(ids: &[Id], id: Id) -> Option<usize>
+    requires { Rises ids.now }
+    ensures { result ≡ position (is_id id) ids.now }
 {
-    let at = rows.partition_point(
-        |row: &R| -> bool
-            ensures { result ≡ nat_lt (R.id_of row.now).0 id.0 }
-        { row.id().0 < id.0 },
+    let at = ids.partition_point(
+        |other: &Id| -> bool
+            ensures { result ≡ nat_lt other.now.0 id.0 }
+        { other.0 < id.0 },
     );
-    if at < rows.len() && rows[at].id().0 == id.0 {
+    if at < ids.len() && ids[at].0 == id.0 {
         Some(at)
     } else {
         None
     }
 }
 
-/// The row with this id.
-pub(crate) fn found<R: Row>(rows: &[R], id: Id) -> Option<&R>
-    requires { Rises (map R.id_of rows.now) }
-    ensures { option_copied result ≡ find (λ r. is_id id (R.id_of r)) rows.now }
-{
-    match find_at(rows, id) {
-        Some(at) => Some(&rows[at]),
-        None => None,
+impl<R: Row> Table<R> {
+    /// No rows. It takes no memory.
+    pub(crate) fn new(alloc: Global) -> Table<R>
+        ensures { result ≡ record { items = []; spare = 0 } }
+    {
+        Table {
+            ids: Vec::new(alloc),
+            rows: Vec::new(alloc),
+            spare: 0,
+        }
+    }
+
+    /// The rows in order of creation.
+    pub(crate) fn as_slice(&self) -> &[R]
+        ensures { result.now ≡ self.now.items }
+    {
+        &self.rows
+    }
+
+    /// Memory for so many rows more. The rows are as before.
+    pub(crate) fn reserve(&mut self, rows: usize) -> Result<(), NoMemory>
+        ensures items { self.new.items ≡ self.old.items }
+        ensures ok { OnOk result (rows ≤ self.new.spare) }
+        ensures spare { self.old.spare ≤ self.new.spare }
+    {
+        if self.spare < rows {
+            self.ids.reserve(rows)?;
+            self.rows.reserve(rows)?;
+            self.spare = rows;
+        }
+        Ok(())
+    }
+
+    /// A table with memory for one row more doesn't have all rows that can be counted.
+    pub(crate) fn few(&self)
+        requires { 0 < self.now.spare }
+        ensures { length self.now.items < 2 ^ 64 - 1 }
+    {
+        prove!(self.rows.len() < self.rows.capacity());
+    }
+
+    /// The place of the row with this id, by halves.
+    pub(crate) fn find_at(&self, id: Id) -> Option<usize>
+        requires { Rises (map R.id_of self.now.items) }
+        ensures { result ≡ position (λ r. is_id id (R.id_of r)) self.now.items }
+    {
+        place_of(&self.ids, id)
+    }
+
+    /// The row with this id.
+    pub(crate) fn found(&self, id: Id) -> Option<&R>
+        requires { Rises (map R.id_of self.now.items) }
+        ensures { option_copied result ≡ find (λ r. is_id id (R.id_of r)) self.now.items }
+    {
+        match self.find_at(id) {
+            Some(at) => Some(&self.rows[at]),
+            None => None,
+        }
+    }
+}
+
+impl<R: Row + Drop> Table<R> {
+    /// Puts a row last. It takes no memory.
+    pub(crate) fn push(&mut self, row: R)
+        requires space { 0 < self.old.spare }
+        ensures items { self.new.items ≡ self.old.items ++ row ∷ [] }
+        ensures spare { self.new.spare + 1 ≡ self.old.spare }
+    {
+        self.spare -= 1;
+        push_reserved(&mut self.ids, row.id());
+        push_reserved(&mut self.rows, row);
+    }
+
+    // Puts a row in the place of the one with its id.
+    fn set(&mut self, at: usize, row: R)
+        requires place { position (λ r. is_id (R.id_of row) (R.id_of r)) self.old.items ≡ Some at }
+        ensures items { self.new.items ≡ set self.old.items at row }
+        ensures spare { self.new.spare ≡ self.old.spare }
+    {
+        self.rows[at] = row;
+    }
+
+    /// Puts a row in the place of the one with its id, or else last. It takes no memory.
+    pub(crate) fn put(&mut self, row: R)
+        requires rises { Rises (map R.id_of self.old.items) }
+        requires space { 0 < self.old.spare }
+        ensures items { self.new.items ≡ put_row (λ r. is_id (R.id_of row) (R.id_of r)) row self.old.items }
+        ensures spare { self.old.spare ≤ self.new.spare + 1 }
+    {
+        match self.find_at(row.id()) {
+            Some(at) => self.set(at, row),
+            None => self.push(row),
+        }
+    }
+
+    /// Drops the row with this id.
+    pub(crate) fn drop_id(&mut self, id: Id)
+        requires rises { Rises (map R.id_of self.old.items) }
+        ensures items { self.new.items ≡ drop_rows (λ r. is_id id (R.id_of r)) self.old.items }
+        ensures spare { self.new.spare ≡ self.old.spare }
+    {
+        if let Some(at) = self.find_at(id) {
+            self.ids.remove(at);
+            self.rows.remove(at);
+        }
     }
 }
 
@@ -69,29 +187,5 @@ pub(crate) fn put_at<R: Drop>(rows: &mut Vec<R>, at: Option<usize>, row: R)
     match at {
         Some(at) => rows[at] = row,
         None => push_reserved(rows, row),
-    }
-}
-
-/// Puts a row in the place of the one with its id, or else last. It takes no memory.
-pub(crate) fn put<R: Row + Drop>(rows: &mut Vec<R>, row: R)
-    requires rises { Rises (map R.id_of rows.old.items) }
-    requires space { vec_len rows.old < vec_capacity rows.old }
-    ensures items { rows.new.items ≡ put_row (λ r. is_id (R.id_of row) (R.id_of r)) row rows.old.items }
-    ensures len { vec_len rows.new ≤ vec_len rows.old + 1 }
-    ensures capacity { vec_capacity rows.old ≤ vec_capacity rows.new }
-{
-    let at = find_at(rows, row.id());
-    put_at(rows, at, row);
-}
-
-/// Drops the row with this id.
-pub(crate) fn drop_id<R: Row + Drop>(rows: &mut Vec<R>, id: Id)
-    requires rises { Rises (map R.id_of rows.old.items) }
-    ensures items { rows.new.items ≡ drop_rows (λ r. is_id id (R.id_of r)) rows.old.items }
-    ensures len { vec_len rows.new ≤ vec_len rows.old }
-    ensures capacity { vec_capacity rows.old ≤ vec_capacity rows.new }
-{
-    if let Some(at) = find_at(rows, id) {
-        rows.remove(at);
     }
 }

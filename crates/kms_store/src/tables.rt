@@ -201,14 +201,14 @@ impl Tables {
     pub fn secrets(&self) -> &[KeptSecret]
         ensures { result.now ≡ self.now.kept.state.secrets }
     {
-        &self.rows.secrets
+        self.rows.secrets.as_slice()
     }
 
     /// The containers in order of creation.
     pub fn containers(&self) -> &[ContainerRow]
         ensures { result.now ≡ self.now.kept.state.containers }
     {
-        &self.rows.containers
+        self.rows.containers.as_slice()
     }
 
     /// The consumers in order of creation.
@@ -222,7 +222,7 @@ impl Tables {
     pub fn orders(&self) -> &[OrderRow]
         ensures { result.now ≡ self.now.kept.state.orders }
     {
-        &self.rows.orders
+        self.rows.orders.as_slice()
     }
 
     /// The access lists in order of creation.
