@@ -1,5 +1,5 @@
 -- What is started over a store, and what is refused.
-use Rattle.std.proofs.Common.{◌≡◌, inl, inr, ℕ, Bool, false, List, [], ◌∷◌, length, get_or, None, refl, sym, ap, subst, ◌∙◌, arith}
+use Rattle.std.proofs.Common.{◌≡◌, inl, inr, ℕ, Bool, false, ◌+◌, List, [], ◌∷◌, length, get_or, None, refl, sym, ap, subst, ◌∙◌, arith}
 use Rattle.std.specs.Prelude.{Ok, Err}
 use Rattle.kms_host.specs.History.{History}
 use Rattle.kms_host.specs.Disk.{Disk, MayLeave, at_rest}
@@ -17,9 +17,10 @@ use Rattle.kms_journal.specs.declared.fault.JournalFault.TheVariants as journal
 use Rattle.kms_journal.specs.declared.fault.Place.{Place}
 use Rattle.kms_journal.specs.declared.fault.Place.TheVariants.{Body}
 use Rattle.kms_journal.proofs.ReadingLaws.{same_reads, same_files, quiet_after, attached_after}
+use Rattle.kms_store.specs.Checkpoint.{IsCountOf}
 use Rattle.kms_store.specs.Loading.{IsBrokenAt, LeadsChain, Loads}
 use Rattle.kms_store.specs.Staged.{Staging, StagingLeads, nothing_staged}
-use Rattle.kms_store.specs.Stands.{LeadTo, KeptOf, BreakAt, IsDamagedAt}
+use Rattle.kms_store.specs.Stands.{LeadTo, KeptOf, BreakAt, HaveSteps, IsDamagedAt}
 use Rattle.kms_store.specs.Store.{Stored}
 use Rattle.kms_store.specs.declared.load_fault.LoadFault.{LoadFault}
 use Rattle.kms_store.specs.declared.load_fault.LoadFault.TheVariants as load
@@ -90,7 +91,7 @@ still_keeps was mid k h u = record {
   other = λ s stands f elsewhere. u.disk f ∙ k.other s stands f elsewhere;
   none = λ no_store.
       let before = k.none no_store in
-      record { disk = λ f. u.disk f ∙ before.disk f; others = u.others ∙ before.others; syncs = u.syncs ∙ before.syncs };
+      record { disk = λ f. u.disk f ∙ before.disk f; others = u.others ∙ before.others; syncs = u.syncs ∙ before.syncs; cuts = u.cuts ∙ before.cuts };
   others = u.others ∙ k.others;
   syncs = omega (arith, u.syncs, k.syncs);
 }
@@ -121,13 +122,15 @@ module _ (p : Position) (was mid now : History) (o : OpensJournal (Ok p) was mid
             (s, at, o.answer.1, ap (λ (c : Chain). Body c.file at) g.answer, broken_store s at (subst (λ (c : Chain). IsBrokenAt c at) g.answer l))
 
     pub started_at : (store : Stored) (engine : Held) → LeadsChain chain store.kept → store.staging ≡ nothing_staged
-        → engine ≡ record { state = store.kept.state; store = record { journal = record p { chain = None }; stored = store } } → Starts (Ok engine) was now
-    started_at store engine l none is =
+        → ((n : ℕ) → HaveSteps chain.bodies n → IsCountOf store.steps (chain.steps + n)) → engine ≡ record { state = store.kept.state; store = record { journal = record p { chain = None }; stored = store } } → Starts (Ok engine) was now
+    started_at store engine l none total is =
         let s = o.answer.0 in
         let g = gathers s o.answer.2 in
         let loads : LeadsChain (chain_of s) store.kept = subst (λ (c : Chain). LeadsChain c store.kept) g.answer l in
         let keeps : KeptOf s store.kept = record { whole = o.answer.2.whole; first = loads.first; snapshot = loads.snapshot; records = loads.records } in
         let steps = kept_counts s store.kept keeps in
+        let many : IsCountOf store.steps (s.steps + steps.1.0) =
+        subst (λ (c : Chain). (n : ℕ) → HaveSteps c.bodies n → IsCountOf store.steps (c.steps + n)) g.answer total steps.1.0 steps.1.1 in
         let now_placed = placed_after p s mid now g.throughout o.answer.2 in
         subst (λ (x : Held). Starts (Ok x) was now) (sym is) (record {
           throughout = during g.throughout;
@@ -138,7 +141,7 @@ module _ (p : Position) (was mid now : History) (o : OpensJournal (Ok p) was mid
             record {
               idle = record { count = ap (λ (st : Staging). st.count) none; steps = ap (λ (st : Staging). st.steps) none };
               opened = record {
-                opened = record { standing = s; placed = now_placed; keeps = keeps; counted = steps.1; leads = subst (λ (st : Staging). StagingLeads st store.kept store.kept) (sym none) (nothing_leads store.kept) };
+                opened = record { standing = s; placed = now_placed; keeps = keeps; counted = steps.1; leads = subst (λ (st : Staging). StagingLeads st store.kept store.kept) (sym none) (nothing_leads store.kept); total = omega (arith, many, steps.1.2, ap (λ (st : Staging). st.count) none) };
                 now = refl;
               };
             },

@@ -5,6 +5,7 @@ use Rattle.kms_host.specs.History.{History}
 use Rattle.kms_record.specs.declared.key.WrappedKey.{WrappedKey}
 use Rattle.kms_record.specs.Grammar.{step_bytes}
 use Rattle.kms_kept.specs.Kept.{Kept, after_step}
+use Rattle.kms_store.specs.Checkpoint.{IsCountOf}
 use Rattle.kms_store.specs.Staged.{StagingLeads}
 use Rattle.kms_store.specs.Store.{IsReserved}
 use Rattle.kms_store.specs.ReadyStep.{TaggedStep}
@@ -28,17 +29,19 @@ abbrev pub Prepares : Option TaggedStep → Held → State → Type 0
 Prepares None engine after = after ≡ engine.state
 Prepares (Some step) engine after = LeadsTo step engine after
 
--- The journal, what is kept and the staged steps are as before.
+-- The journal, what is kept, the staged steps and the number of steps are as before.
 pub record KeepsTheSame (old new : Keeping) : Type 0 where
   pub journal : new.journal ≡ old.journal
   pub kept : new.stored.kept ≡ old.stored.kept
   pub count : count_of new ≡ count_of old
   pub steps : new.stored.staging.steps ≡ old.stored.staging.steps
+  pub total : new.stored.steps ≡ old.stored.steps
 
--- So many more steps are staged, and they lead from one engine's state to the other's, with the same wrapped keys.
+-- So many more steps are staged and counted, and they lead from one engine's state to the other's, with the same wrapped keys.
 pub record Waits (before after : Held) (steps : ℕ) : Type 0 where
   pub journal : after.store.journal ≡ before.store.journal
   pub count : count_of after.store ≡ count_of before.store + steps
+  pub total : (n : ℕ) → IsCountOf before.store.stored.steps n → IsCountOf after.store.stored.steps (n + steps)
   pub leads : (settled : Kept) → StagingLeads before.store.stored.staging settled before.store.stored.kept
       → StagingLeads after.store.stored.staging settled after.store.stored.kept
   pub now : (keys : List WrappedKey) → before.store.stored.kept ≡ kept_as keys before.state → after.store.stored.kept ≡ kept_as keys after.state

@@ -10,6 +10,7 @@ ghost use Rattle.kms_journal.specs.Fault.{Fails};
 ghost use Rattle.kms_journal.specs.Position.{IsPlaced};
 ghost use Rattle.kms_journal.specs.Standing.{Standing};
 ghost use Rattle.kms_record.specs.declared.key.WrappedKey.{WrappedKey};
+ghost use Rattle.kms_store.specs.Checkpoint.{HasFewRecords};
 ghost use Rattle.kms_core.specs.Settling.{IsOpened, Settles, count_of, with_failed};
 ghost use Rattle.kms_core.specs.Steps.{LeadsTo, Prepares, KeepsTheSame, Waits, IsIdle, IsWorking};
 
@@ -83,19 +84,23 @@ impl Engine {
         self.store.stage(step);
     }
 
-    /// Writes the accepted steps that wait to the store, as one record, with at most two syncs. It takes no memory. With
-    /// no step that waits it makes no call on the host. From an Ok on they are on the disk, and after a fault the store has
-    /// all of them or none, if nothing was pending on the files before. The engine settles no more then: start another.
+    /// Writes the accepted steps that wait to the store, as one record, with two syncs; and where the records take more than
+    /// 4,194,304 bytes then, puts a snapshot of the state in their place, with one cut and three syncs more. It takes no
+    /// memory. With no step that waits it makes no call on the host. From an Ok on they are on the disk, and after a fault
+    /// the store has all of them or none, if nothing was pending on the files before. The engine settles no more then: start
+    /// another.
     pub fn settle<H: Host>(&mut self, host: &mut H) -> Result<(), StoreFault>
         requires working { IsWorking self.old }
         requires placed { 0 < count_of self.old.store → WhereTold (H.history host.old) (λ h. (s : Standing) × IsPlaced self.old.store.journal h s) }
         ensures told { Tells (H.history host.old) (H.history host.new) (λ was now. (keys : List WrappedKey) (settled : State) (steps : ℕ)
             → IsOpened keys self.old.store was settled steps self.old.state
-            → Settles keys self.new.store result settled steps self.old.state (count_of self.old.store) was now) }
+            → Settles keys self.old.store self.new.store result settled steps self.old.state was now) }
         ensures same { self.new.state ≡ self.old.state }
         ensures ok { OnOk result (IsIdle self.new) }
+        ensures few { OnOk result (0 < count_of self.old.store
+            → HasFewRecords 4194304 self.old.store.stored.kept self.old.store.stored.steps self.new.store.journal) }
         ensures working { OnOk result (IsWorking self.new) }
-        ensures fails { OnErr result (self.new ≡ record self.old { store = with_failed self.old.store }) }
+        ensures fails { OnErr result (self.new ≡ record self.old { store = with_failed self.new.store.journal.end self.old.store }) }
         ensures idle { count_of self.old.store ≡ 0 → (result ≡ Ok tt) × (host.new ≡ host.old) }
         ensures cause { HasCause counts.Store (H.faults host.old) (H.faults host.new) result }
         ensures failed { Tells (H.history host.old) (H.history host.new) (Fails (is_err result)) }

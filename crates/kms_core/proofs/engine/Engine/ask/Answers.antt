@@ -26,7 +26,7 @@ returns g c =
       stores = ap (λ (o : Option TaggedStep). is_some o) c.refused-in_default.ensures.step ∙ sym stored;
       times = subst HasTimes (sym c.refused-in_default.ensures.answer) tt;
       same = refl;
-      store = record { journal = refl; kept = refl; count = refl; steps = refl };
+      store = record { journal = refl; kept = refl; count = refl; steps = refl; total = refl };
       host = refl;
     }
 

@@ -15,7 +15,7 @@ returns-in-Err-clause-told g c =
 pub returns-in-Ok-load-clause-told : goal.returns-in-Ok-load-clause-told
 returns-in-Ok-load-clause-told g c =
     tells_then _ c.in_ok-journal.ensures.told c.in-Ok.ensures.told
-    (λ was mid now o k. started_at c.in_ok-journal.journal was mid now o c.in-Ok.chain k c.in-Ok-load.store _ c.in-Ok-load.ensures.loads c.in-Ok-load.ensures.nothing
+    (λ was mid now o k. started_at c.in_ok-journal.journal was mid now o c.in-Ok.chain k c.in-Ok-load.store _ c.in-Ok-load.ensures.loads c.in-Ok-load.ensures.nothing c.in-Ok-load.ensures.steps
     (ap (λ (j : Position). let e : Held = record { state = c.in-Ok-load.store.kept.state; store = record { journal = j; stored = c.in-Ok-load.store } } in e) c.in-Ok.ensures.position))
 
 pub returns-in-Err-load-clause-told : goal.returns-in-Err-load-clause-told
