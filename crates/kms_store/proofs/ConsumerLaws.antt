@@ -21,7 +21,7 @@ use Rattle.kms_kept.specs.Rising.{IsRising}
 use Rattle.kms_kept.proofs.ApartLaws.{fresh}
 use Rattle.kms_kept.proofs.RisingLaws.{one_id}
 use Rattle.kms_store.specs.Tally.{rows_in}
-use Rattle.kms_store.specs.declared.tally.ProjectRows.{ProjectRows}
+use Rattle.kms_store.specs.Tally.{ProjectRows}
 use Rattle.kms_store.proofs.TableLaws.{put_last}
 
 -- two tests that agree on each row count alike

@@ -3,6 +3,7 @@ pub mod ConsumerLaws
 pub mod CountLaws
 pub mod DamageLaws
 pub mod EditLaws
+pub mod KeyedLaws
 pub mod KeysLaws
 pub mod LoadLaws
 pub mod ReadyLaws

@@ -17,7 +17,7 @@ use Rattle.std.proofs.lemmas.Option.{same_Some, slice_get-get_or, slice_get_past
 use Rattle.kms_world.specs.declared.id.Id.{Id}
 use Rattle.kms_world.specs.Effect.{put_row, drop_rows, change_rows}
 use Rattle.kms_world.specs.Id.{is_id}
-use Rattle.kms_store.specs.Table.{Rises, placed, IsIndexed}
+use Rattle.kms_store.specs.Table.{Rises, IsIndexed}
 
 module _ {X : Type 0} (id_of : X → Id) where
   above : (low : ℕ) (xs : List X) (j : ℕ) (d : X) → AllByRecursion (λ (other : Id). low < other.0) (map id_of xs) → j < length xs → low < (id_of (get_or xs j d)).0
@@ -149,15 +149,6 @@ dropped_there id_of id d xs i r at =
     (λ k e more less. ne_eqb (id_of (get_or xs k e)).0 id.0 (λ same.
     let here : (id_of (get_or xs i e)).0 ≡ id.0 = eqb-true (id_of (get_or xs i e)).0 id.0 (position-Some (λ x. is_id id (id_of x)) xs i e at).1 in
     absurd (omega (arith, same, here, rises_at id_of xs i k e r more less))))
-
-pub placed_row : {X : Type 0} (p : X → Bool) (row : X) (xs : List X) (at : Option ℕ) → at ≡ position p xs → placed at row xs ≡ put_row p row xs
-placed_row p row xs None is = sym (put_last p row xs (find_nowhere p xs (sym is)))
-placed_row p row xs (Some i) is = sym (put_there p row row xs i (sym is))
-
-pub place_within : {X : Type 0} (p : X → Bool) (xs : List X) (at : Option ℕ) → at ≡ position p xs → IfSome at (λ i. i < length xs)
-place_within p xs None is = tt
-place_within p [] (Some i) is = absurd cc
-place_within p (x ∷ xs) (Some i) is = (position-Some p (x ∷ xs) i x (sym is)).0
 
 -- ---- the ids beside the rows
 

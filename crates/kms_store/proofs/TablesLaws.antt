@@ -5,6 +5,7 @@ use Rattle.kms_record.specs.declared.change.Change.{Change}
 use Rattle.kms_record.specs.Grammar.{IsChange}
 use Rattle.kms_kept.specs.Kept.{Kept, changed, secret_ids, container_ids, order_ids}
 use Rattle.kms_kept.specs.KeyNumbers.{KeysAscend}
+use Rattle.kms_kept.specs.Once.{Pairwise, HaveOtherTargets, HaveOtherProjects}
 use Rattle.kms_kept.specs.Rising as rising
 use Rattle.kms_kept.specs.Sound.{IsSound}
 use Rattle.kms_kept.proofs.SoundLaws.{change_is_sound}
@@ -26,6 +27,8 @@ ordered_rows r kept is tag sound = record {
   secrets = subst (λ (k : Kept). Rises (secret_ids k.state)) (sym is) (rises_alone kept.state.tag kept.state.ids (secret_ids kept.state) sound.rising.secrets);
   containers = subst (λ (k : Kept). Rises (container_ids k.state)) (sym is) (rises_alone kept.state.tag kept.state.ids (container_ids kept.state) sound.rising.containers);
   orders = subst (λ (k : Kept). Rises (order_ids k.state)) (sym is) (rises_alone kept.state.tag kept.state.ids (order_ids kept.state) sound.rising.orders);
+  acls = subst (λ (k : Kept). Pairwise HaveOtherTargets k.state.acls) (sym is) sound.once.acls;
+  quotas = subst (λ (k : Kept). Pairwise HaveOtherProjects k.state.quotas) (sym is) sound.once.quotas;
   keys = subst (λ (k : Kept). KeysAscend k.keys) (sym is) sound.keys;
 }
 

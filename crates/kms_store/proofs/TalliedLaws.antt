@@ -12,7 +12,7 @@ use Rattle.kms_store.specs.Counts.{rows_of, Tallies, AreCounted}
 use Rattle.kms_store.specs.Table.{Rises}
 use Rattle.kms_store.specs.Tally.{rows_in, ProjectsAscend}
 use Rattle.kms_store.specs.declared.counts.Counts.{Counts}
-use Rattle.kms_store.specs.declared.tally.ProjectRows.{ProjectRows}
+use Rattle.kms_store.specs.Tally.{ProjectRows}
 use Rattle.kms_store.proofs.CountLaws.{count_push, count_changed, counted_few, count_put_there, count_put_last, count_dropped}
 use Rattle.kms_store.proofs.TableLaws.{dropped_nowhere}
 

@@ -7,9 +7,8 @@ use Rattle.kms_world.specs.declared.container.ContainerRow.{ContainerRow}
 use Rattle.kms_world.specs.declared.quota.QuotaKind.{QuotaKind}
 use Rattle.kms_world.specs.declared.quota.QuotaKind.TheVariants.{Secrets, Orders, Containers, Consumers}
 use Rattle.kms_kept.specs.Kept.{has}
-use Rattle.kms_store.specs.Tally.{rows_in, ProjectsAscend}
+use Rattle.kms_store.specs.Tally.{rows_in, ProjectRows, ProjectsAscend}
 use Rattle.kms_store.specs.declared.counts.Counts.{Counts}
-use Rattle.kms_store.specs.declared.tally.ProjectRows.{ProjectRows}
 
 -- so many of the rows are the project's
 abbrev pub rows_of : {X : Type 0} → (X → List ℕ) → (project : List ℕ) → List X → ℕ

@@ -2,8 +2,11 @@ pub mod Checkpoint
 pub mod Counts
 pub mod Due
 pub mod Gives
+pub mod IndexKey
+pub mod IndexKeyLaws
 pub mod KeptSecret
 pub mod KeptSecretFields
+pub mod Keyed
 pub mod Keys
 pub mod Loading
 pub mod Part

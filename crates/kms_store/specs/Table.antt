@@ -19,8 +19,3 @@ pub record IsIndexed {X : Type 0} (id_of : X → Id) (ids : Vec Id) (rows : Vec 
 abbrev pub Rises : List Id → Type 0
 Rises [] = Unit {0}
 Rises (first ∷ rest) = AllByRecursion (λ (other : Id). first.0 < other.0) rest × Rises rest
-
--- the rows, with one in a place, or else last
-abbrev pub placed : {X : Type 0} → Option ℕ → X → List X → List X
-placed None row rows = rows ++ row ∷ []
-placed (Some at) row rows = set rows at row

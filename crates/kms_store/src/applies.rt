@@ -48,20 +48,6 @@ fn has_consumer(rows: &[ConsumerRow], container: Id, name: &Text, url: &Text) ->
         .any(|row| is_consumer(row, container, name, url))
 }
 
-fn has_acl(acls: &[AclRow], target: Id) -> bool
-    ensures { result ≡ list_any (λ r. is_id target r.target) acls.now }
-{
-    acls.iter().any(|row| row.target.0 == target.0)
-}
-
-fn has_quota(quotas: &[QuotaRow], project: &Name) -> bool
-    ensures { result ≡ list_any (λ r. bytes_eq project.now r.project) quotas.now }
-{
-    quotas
-        .iter()
-        .any(|row| project.as_bytes() == row.project.as_bytes())
-}
-
 fn may_replace_container(put: &ContainerPut, row: &ContainerRow) -> bool
     ensures { result ≡ may_replace_container put.now row.now }
 {
@@ -283,7 +269,7 @@ impl Rows {
     {
         match put.limits {
             Some(_) => true,
-            None => has_quota(&self.quotas, &put.project),
+            None => self.quotas.has(&put.project),
         }
     }
 
@@ -305,7 +291,7 @@ impl Rows {
             Change::ConsumerAdded(put) => self.may_add_consumer(put),
             Change::ConsumerDropped(put) => self.may_drop_consumer(put),
             Change::AclPut(put) => self.may_put_acl(put),
-            Change::AclDropped(id) => has_acl(&self.acls, self.id(*id)),
+            Change::AclDropped(id) => self.acls.has(&self.id(*id)),
             Change::OrderPut(put) => self.may_put_order(part, put),
             Change::QuotaPut(put) => self.may_put_quota(put),
             Change::Deleted(id) => self.is_taken(self.id(*id)),

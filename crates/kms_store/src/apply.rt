@@ -127,7 +127,7 @@ impl Rows {
         ensures kept { kept_in self.new ≡ changed (Change.AclPut put) (kept_in self.old) }
         ensures space { LeavesSpace self.old self.new }
     {
-        edits::put_acl(&mut self.acls, put.into_row(self.tag));
+        self.acls.put(put.into_row(self.tag));
     }
 
     fn drop_acl(&mut self, target: u64)
@@ -137,7 +137,7 @@ impl Rows {
         ensures space { LeavesSpace self.old self.new }
     {
         let id = self.id(target);
-        edits::drop_acl(&mut self.acls, id);
+        self.acls.drop_key(&id);
     }
 
     fn put_order(&mut self, put: OrderPut)
@@ -153,13 +153,14 @@ impl Rows {
     }
 
     fn put_quota(&mut self, put: QuotaPut)
+        requires ordered { AreOrdered self.old }
         requires space { HasSpace 1 self.old }
         ensures kept { kept_in self.new ≡ changed (Change.QuotaPut put) (kept_in self.old) }
         ensures space { LeavesSpace self.old self.new }
     {
         match put.limits {
-            Some(limits) => edits::put_quota(&mut self.quotas, limits.into_row(put.project)),
-            None => edits::drop_quota(&mut self.quotas, &put.project),
+            Some(limits) => self.quotas.put(limits.into_row(put.project)),
+            None => self.quotas.drop_key(&put.project),
         }
     }
 
@@ -174,7 +175,7 @@ impl Rows {
         self.containers.drop_id(id);
         edits::drop_consumers(&mut self.consumers, id);
         self.orders.drop_id(id);
-        edits::drop_acl(&mut self.acls, id);
+        self.acls.drop_key(&id);
     }
 
     fn add_key(&mut self, key: WrappedKey)

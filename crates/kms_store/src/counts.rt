@@ -25,7 +25,7 @@ use crate::ready::Prepared;
 use crate::row::Row;
 use crate::rows::Rows;
 use crate::table::Table;
-use crate::tally::{ProjectRows, add, rows_in, take};
+use crate::tally::{ProjectRows, add, number_in, take};
 use kms_record::{Change, ConsumerAdded, ConsumerDropped, OrderPut, SecretPut};
 use kms_world::{ConsumerRow, ContainerRow, Id, Name, NoMemory, QuotaKind, Text};
 use std::alloc::Global;
@@ -286,10 +286,10 @@ impl Counts {
         ensures { result ≡ count_of kind project.now (kept_in rows.now).state }
     {
         match kind {
-            QuotaKind::Secrets => rows_in(&self.secrets, project),
-            QuotaKind::Orders => rows_in(&self.orders, project),
-            QuotaKind::Containers => rows_in(&self.containers, project),
-            QuotaKind::Consumers => rows_in(&self.consumers, project),
+            QuotaKind::Secrets => number_in(&self.secrets, project),
+            QuotaKind::Orders => number_in(&self.orders, project),
+            QuotaKind::Containers => number_in(&self.containers, project),
+            QuotaKind::Consumers => number_in(&self.consumers, project),
         }
     }
 }

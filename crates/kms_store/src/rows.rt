@@ -6,6 +6,7 @@ ghost use Rattle.kms_store.specs.Rows.{kept_in, AreOrdered, HasSpace};
 ghost use Rattle.kms_store.specs.Table.{Rises};
 
 use crate::KeptSecret;
+use crate::keyed::KeyedTable;
 use crate::keys::key_in;
 use crate::table::Table;
 use kms_record::WrappedKey;
@@ -21,23 +22,9 @@ pub(crate) struct Rows {
     pub(crate) containers: Table<ContainerRow>,
     pub(crate) consumers: Vec<ConsumerRow>,
     pub(crate) orders: Table<OrderRow>,
-    pub(crate) acls: Vec<AclRow>,
-    pub(crate) quotas: Vec<QuotaRow>,
+    pub(crate) acls: KeyedTable<AclRow>,
+    pub(crate) quotas: KeyedTable<QuotaRow>,
     pub(crate) keys: Vec<WrappedKey>,
-}
-
-fn acl_in(acls: &[AclRow], target: Id) -> Option<&AclRow>
-    ensures { option_copied result ≡ acl_of target acls.now }
-{
-    acls.iter().find(|row| row.target.0 == target.0)
-}
-
-fn quota_in<'a>(quotas: &'a [QuotaRow], project: &Name) -> Option<&'a QuotaRow>
-    ensures { option_copied result ≡ quota_of project.now quotas.now }
-{
-    quotas
-        .iter()
-        .find(|row| project.as_bytes() == row.project.as_bytes())
 }
 
 impl Rows {
@@ -56,8 +43,8 @@ impl Rows {
             containers: Table::new(alloc),
             consumers: Vec::new(alloc),
             orders: Table::new(alloc),
-            acls: Vec::new(alloc),
-            quotas: Vec::new(alloc),
+            acls: KeyedTable::new(alloc),
+            quotas: KeyedTable::new(alloc),
             keys: Vec::new(alloc),
         }
     }
@@ -102,13 +89,13 @@ impl Rows {
     pub(crate) fn acl(&self, target: Id) -> Option<&AclRow>
         ensures { option_copied result ≡ acl_of target self.now.acls.items }
     {
-        acl_in(&self.acls, target)
+        self.acls.found(&target)
     }
 
     pub(crate) fn quota(&self, project: &Name) -> Option<&QuotaRow>
         ensures { option_copied result ≡ quota_of project.now self.now.quotas.items }
     {
-        quota_in(&self.quotas, project)
+        self.quotas.found(project)
     }
 
     pub(crate) fn key(&self, project: &Name, number: u32) -> Option<&WrappedKey>

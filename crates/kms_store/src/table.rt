@@ -3,7 +3,7 @@ ghost use Rattle.std.specs.Prelude.{◌≡◌, ◌<◌, ◌≤◌, ◌+◌, ◌-
 ghost use Rattle.std.specs.List.{position, list_all};
 ghost use Rattle.kms_world.specs.Effect.{put_row, drop_rows};
 ghost use Rattle.kms_world.specs.Id.{is_id};
-ghost use Rattle.kms_store.specs.Table.{Rises, placed};
+ghost use Rattle.kms_store.specs.Table.{Rises};
 
 use crate::row::Row;
 use kms_world::{Id, NoMemory};
@@ -174,18 +174,4 @@ pub(crate) fn push_reserved<R: Drop>(rows: &mut Vec<R>, row: R)
 {
     let pushed = rows.push(row);
     prove!(pushed.is_ok());
-}
-
-/// Puts a row in a place, or else last. It takes no memory.
-pub(crate) fn put_at<R: Drop>(rows: &mut Vec<R>, at: Option<usize>, row: R)
-    requires place { IfSome at (λ i. i < length rows.old.items) }
-    requires space { vec_len rows.old < vec_capacity rows.old }
-    ensures items { rows.new.items ≡ placed at row rows.old.items }
-    ensures len { vec_len rows.new ≤ vec_len rows.old + 1 }
-    ensures capacity { vec_capacity rows.old ≤ vec_capacity rows.new }
-{
-    match at {
-        Some(at) => rows[at] = row,
-        None => push_reserved(rows, row),
-    }
 }

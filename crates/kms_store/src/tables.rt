@@ -229,14 +229,14 @@ impl Tables {
     pub fn acls(&self) -> &[AclRow]
         ensures { result.now ≡ self.now.kept.state.acls }
     {
-        &self.rows.acls
+        self.rows.acls.as_slice()
     }
 
     /// The rows of quotas in order of creation.
     pub fn quotas(&self) -> &[QuotaRow]
         ensures { result.now ≡ self.now.kept.state.quotas }
     {
-        &self.rows.quotas
+        self.rows.quotas.as_slice()
     }
 
     /// The wrapped keys by project and number.

@@ -1,62 +1,58 @@
-// How many rows each project has, by its name.
+// A number for each of some keys, as how many rows a project has.
 ghost use Rattle.std.specs.Prelude.{◌≡◌, ◌<◌, ◌≤◌, ◌+◌, ◌-◌, ◌^◌, ℕ, List, true, false, length, if◌then◌else◌, IfOk, vec_len, vec_capacity, slice_index_or};
 ghost use Rattle.std.specs.List.{insert, remove};
 ghost use Rattle.std.specs.List.Sorted.{IsPartitionPoint};
 ghost use Rattle.std.specs.Result.{IfErr};
-ghost use Rattle.std.specs.Str.{bytes_eq};
-ghost use Rattle.kms_world.specs.Pairs.{is_below};
-ghost use Rattle.kms_store.specs.Tally.{rows_in, ProjectsAscend, StandsAt, GoesAt};
+ghost use Rattle.kms_store.specs.Tally.{number_in, Ascend, StandsAt, GoesAt};
 
+use crate::index_key::IndexKey;
 use kms_world::Name;
 
-/// How many rows a project has.
+/// The number that a key has.
 #[derive(Clone, Copy, Debug, PartialEq, Eq)]
-pub(crate) struct ProjectRows {
-    project: Name,
-    rows: usize,
+pub(crate) struct Entry<K> {
+    pub(crate) key: K,
+    pub(crate) number: usize,
 }
 
-fn is_of(entry: &ProjectRows, project: &Name) -> bool
-    ensures { result ≡ bytes_eq project.now entry.now.project }
-{
-    project.as_bytes() == entry.project.as_bytes()
-}
+/// How many rows a project has.
+pub(crate) type ProjectRows = Entry<Name>;
 
-// Where the project's entry stands, or would stand, by halves.
-fn point(entries: &[ProjectRows], project: &Name) -> usize
-    requires { ProjectsAscend entries.now }
+// Where the key's entry stands, or would stand, by halves.
+fn point<K: IndexKey>(entries: &[Entry<K>], key: &K) -> usize
+    requires { Ascend K.below entries.now }
     ensures bound { result ≤ length entries.now }
-    ensures parted { IsPartitionPoint (λ e. is_below e.project project.now ≡ true) (λ e. is_below e.project project.now ≡ false) entries.now result }
+    ensures parted { IsPartitionPoint (λ e. K.below e.key key.now ≡ true) (λ e. K.below e.key key.now ≡ false) entries.now result }
 {
-    entries.partition_point(|entry| entry.project.as_str() < project.as_str())
+    entries.partition_point(|entry: &Entry<K>| entry.key.comes_before(key))
 }
 
-// The place of the project's entry, or else where it would go.
-fn place(entries: &[ProjectRows], project: &Name) -> Result<usize, usize>
-    requires { ProjectsAscend entries.now }
-    ensures there { IfOk result (StandsAt project.now entries.now) }
-    ensures missing { IfErr result (GoesAt project.now entries.now) }
+// The place of the key's entry, or else where it would go.
+fn place<K: IndexKey>(entries: &[Entry<K>], key: &K) -> Result<usize, usize>
+    requires { Ascend K.below entries.now }
+    ensures there { IfOk result (StandsAt key.now entries.now) }
+    ensures missing { IfErr result (GoesAt K.below key.now entries.now) }
 {
-    let at = point(entries, project);
-    if at < entries.len() && is_of(&entries[at], project) {
+    let at = point(entries, key);
+    if at < entries.len() && key.is_key(&entries[at].key) {
         Ok(at)
     } else {
         Err(at)
     }
 }
 
-/// How many rows a project has.
-pub(crate) fn rows_in(entries: &[ProjectRows], project: &Name) -> usize
-    requires { ProjectsAscend entries.now }
-    ensures { result ≡ rows_in project.now entries.now }
+/// The number that a key has, or 0 where it has no entry.
+pub(crate) fn number_in<K: IndexKey>(entries: &[Entry<K>], key: &K) -> usize
+    requires { Ascend K.below entries.now }
+    ensures { result ≡ number_in K.is key.now entries.now }
 {
-    match place(entries, project) {
-        Ok(at) => entries[at].rows,
+    match place(entries, key) {
+        Ok(at) => entries[at].number,
         Err(_) => 0,
     }
 }
 
-fn insert_reserved(entries: &mut Vec<ProjectRows>, at: usize, entry: ProjectRows)
+fn insert_reserved<K: Drop>(entries: &mut Vec<Entry<K>>, at: usize, entry: Entry<K>)
     requires place { at ≤ length entries.old.items }
     requires space { vec_len entries.old < vec_capacity entries.old }
     ensures items { entries.new.items ≡ insert entries.old.items at entry }
@@ -67,51 +63,48 @@ fn insert_reserved(entries: &mut Vec<ProjectRows>, at: usize, entry: ProjectRows
     prove!(inserted.is_ok());
 }
 
-/// A project has so many rows more. It takes no memory.
-pub(crate) fn add(entries: &mut Vec<ProjectRows>, project: &Name, rows: usize)
-    requires ascend { ProjectsAscend entries.old.items }
+/// A key's number grows. It takes no memory.
+pub(crate) fn add<K: IndexKey + Copy>(entries: &mut Vec<Entry<K>>, key: &K, number: usize)
+    requires ascend { Ascend K.below entries.old.items }
     requires space { vec_len entries.old < vec_capacity entries.old }
-    requires most { rows_in project.now entries.old.items + rows < 2 ^ 64 }
-    ensures ascend { ProjectsAscend entries.new.items }
-    ensures rows { (p : List ℕ) → rows_in p entries.new.items ≡ rows_in p entries.old.items + (if bytes_eq p project.now then rows else 0) }
+    requires most { number_in K.is key.now entries.old.items + number < 2 ^ 64 }
+    ensures ascend { Ascend K.below entries.new.items }
+    ensures numbers { (k : K) → number_in K.is k entries.new.items ≡ number_in K.is k entries.old.items + (if K.is k key.now then number else 0) }
     ensures len { vec_len entries.new ≤ vec_len entries.old + 1 }
     ensures capacity { vec_capacity entries.old ≤ vec_capacity entries.new }
 {
-    match place(entries, project) {
+    match place(entries, key) {
         Ok(at) => {
-            let old = entries[at].rows;
-            entries[at] = ProjectRows {
-                project: *project,
-                rows: old + rows,
+            let old = entries[at].number;
+            entries[at] = Entry {
+                key: *key,
+                number: old + number,
             };
         }
         Err(at) => {
-            let entry = ProjectRows {
-                project: *project,
-                rows,
-            };
+            let entry = Entry { key: *key, number };
             insert_reserved(entries, at, entry);
         }
     }
 }
 
-/// A project has so many rows fewer.
-pub(crate) fn take(entries: &mut Vec<ProjectRows>, project: &Name, rows: usize)
-    requires ascend { ProjectsAscend entries.old.items }
-    requires least { rows ≤ rows_in project.now entries.old.items }
-    ensures ascend { ProjectsAscend entries.new.items }
-    ensures rows { (p : List ℕ) → rows_in p entries.new.items + (if bytes_eq p project.now then rows else 0) ≡ rows_in p entries.old.items }
+/// A key's number falls. An entry whose number would be 0 goes.
+pub(crate) fn take<K: IndexKey + Copy>(entries: &mut Vec<Entry<K>>, key: &K, number: usize)
+    requires ascend { Ascend K.below entries.old.items }
+    requires least { number ≤ number_in K.is key.now entries.old.items }
+    ensures ascend { Ascend K.below entries.new.items }
+    ensures numbers { (k : K) → number_in K.is k entries.new.items + (if K.is k key.now then number else 0) ≡ number_in K.is k entries.old.items }
     ensures len { vec_len entries.new ≤ vec_len entries.old }
     ensures capacity { vec_capacity entries.old ≤ vec_capacity entries.new }
 {
-    if let Ok(at) = place(entries, project) {
-        let old = entries[at].rows;
-        if old == rows {
+    if let Ok(at) = place(entries, key) {
+        let old = entries[at].number;
+        if old == number {
             entries.remove(at);
         } else {
-            entries[at] = ProjectRows {
-                project: *project,
-                rows: old - rows,
+            entries[at] = Entry {
+                key: *key,
+                number: old - number,
             };
         }
     }

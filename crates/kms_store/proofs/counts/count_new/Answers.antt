@@ -5,4 +5,4 @@ pub add-requires-clause-most : goal.add-requires-clause-most
 add-requires-clause-most g c = tally_few g.R.Row.project_of c.args.rows.now.items c.args.entries.now.items c.requires.tally c.args.project.now c.few.ensures
 
 pub returns-clause-tally : goal.returns-clause-tally
-returns-clause-tally g c = λ row is. tally_new g.R.Row.project_of c.args.rows.now.items c.args.entries.now.items c.requires.tally c.args.project.now row c.add.new.entries.items is c.add.ensures.ascend c.add.ensures.rows
+returns-clause-tally g c = λ row is. tally_new g.R.Row.project_of c.args.rows.now.items c.args.entries.now.items c.requires.tally c.args.project.now row c.add.new.entries.items is c.add.ensures.ascend c.add.ensures.numbers
