@@ -6,7 +6,7 @@ use Rattle.httparse.specs.Grammar.{RequestHead}
 use Rattle.kms_world.specs.declared.refusal.Refusal.{Refusal}
 use Rattle.kms_world.specs.declared.refusal.Refusal.TheVariants.{HeadTooLong}
 use Rattle.kms_http.specs.Framing.{framing, closes}
-use Rattle.kms_http.specs.Forms.{head_len}
+use Rattle.kms_http.specs.HeadEnd.{head_len}
 use Rattle.kms_http.specs.HeadEnd.{head_limit}
 use Rattle.kms_http.specs.declared.message.Head.{Head}
 use Rattle.kms_http.specs.Heads.{whole_head}

@@ -1,6 +1,6 @@
 -- The end of a head.
 use Rattle.std.proofs.Common.{◌≡◌, ℕ, zero, suc, ◌+◌, ◌≤◌, List, [], ◌∷◌, ◌++◌, length, take, Option, Some, None, is_some, option_map, IfSome, cond, refl, ap, arith}
-use Rattle.kms_http.specs.Forms.{past, head_len, empty_line}
+use Rattle.kms_http.specs.HeadEnd.{past, head_len, empty_line}
 use Rattle.kms_http.proofs.PastLaws.{some_same, past_length, past-more, past-none}
 
 -- a value that a map gave came from one

@@ -11,7 +11,7 @@ use Rattle.kms_http.specs.declared.message_front.Found.{Found}
 use Rattle.kms_http.specs.declared.message_front.Found.TheVariants as found
 use Rattle.kms_world.specs.declared.refusal.Refusal.TheVariants.{HeadTooLong}
 use Rattle.kms_http.specs.Heads.{whole_head}
-use Rattle.kms_http.specs.Forms.{head_len}
+use Rattle.kms_http.specs.HeadEnd.{head_len}
 use Rattle.kms_http.specs.HeadEnd.{head_limit}
 use Rattle.kms_http.specs.MessageFound.{IsFound, IsFoundAfter, head_at}
 use Rattle.kms_http.specs.Messages.{Front, front, with_head, with_parts, line_feeds, head_of}

@@ -9,7 +9,7 @@ use Rattle.kms_world.specs.declared.refusal.Refusal.TheVariants.{BadMessage, Bod
 use Rattle.kms_http.specs.declared.message.Head.{Head}
 use Rattle.kms_http.specs.declared.message.Message.{Message}
 use Rattle.kms_http.specs.Fields.{Pair, values_of}
-use Rattle.kms_http.specs.Forms.{head_len}
+use Rattle.kms_http.specs.HeadEnd.{head_len}
 use Rattle.kms_http.specs.Framing.{body_limit, is_number, number, wants_length, size_by, framed_by, framing, closes}
 use Rattle.kms_http.specs.HeadEnd.{head_limit}
 use Rattle.kms_http.specs.Heads.{whole_head}

@@ -1,12 +1,13 @@
 -- What is served stays, however the stream goes on.
 use Rattle.std.proofs.Common.{◌≡◌, ℕ, zero, suc, ◌+◌, List, ◌++◌, ◌*◌, ◌≤◌, length, ap, arith, Bool, true, false, ◌||◌, nat_eq, Some, cond, refl}
 use Rattle.kms_http.specs.Messages.{Front, front}
-use Rattle.kms_http.specs.MessageStream.{After, after_front, onward, after, Served, served, served_next, served_at}
+use Rattle.kms_http.specs.MessageStream.{After, after_front, onward, after, served, served_next, served_at}
 use Rattle.kms_http.specs.Messages.Front.{Whole, Bad, Part}
 use Rattle.kms_http.specs.MessageStream.After.{Going, Over, Broken}
-use Rattle.kms_http.proofs.FormLaws.{bound}
+use Rattle.kms_http.proofs.StepLaws.{bound}
 use Rattle.kms_http.specs.Sizes.{longest}
 use Rattle.kms_http.specs.declared.message.Message.{Message}
+use Rattle.kms_http.specs.declared.served.Served.{Served}
 use Rattle.kms_http.proofs.MessageSizeLaws.{message-short}
 use Rattle.kms_http.proofs.CutLaws.{extended, IsSettled, settled-more}
 

@@ -1,6 +1,6 @@
 -- Texts at the front of bytes.
 use Rattle.std.proofs.Common.{◌≡◌, ℕ, ◌≤◌, List, [], ◌∷◌, ◌++◌, length, true, false, is_some, nat_eq, cond, Some, None, refl, ap, arith}
-use Rattle.kms_http.specs.Forms.{past}
+use Rattle.kms_http.specs.HeadEnd.{past}
 
 pub some_same : {A : Type 0} (x y : A) → Some x ≡ Some y → x ≡ y
 some_same x y e = cc

@@ -1,7 +1,7 @@
 -- The end of a head is looked for behind a place before which no empty line begins.
 use Rattle.std.proofs.Common.{◌≡◌, ℕ, zero, suc, ◌+◌, ◌-◌, ◌≤◌, List, [], ◌∷◌, ◌++◌, length, take, drop, Option, Some, None, is_some, option_map, cond, refl, sym, ap, ◌∙◌, arith, length-drop}
 use Rattle.std.proofs.lemmas.List.{drop-append-le, take-append-drop, length-take}
-use Rattle.kms_http.specs.Forms.{past, head_len, empty_line}
+use Rattle.kms_http.specs.HeadEnd.{past, head_len, empty_line}
 use Rattle.kms_http.specs.Quiet.{IsQuiet}
 use Rattle.kms_http.proofs.PastLaws.{past-more, past-none}
 

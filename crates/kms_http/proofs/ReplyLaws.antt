@@ -2,8 +2,8 @@
 use Rattle.std.proofs.Common.{◌≡◌, ℕ, ◌+◌, ◌/◌, ◌%◌, ◌<◌, List, ◌∷◌, ◌++◌, length, get_or, Bool, refl, sym, ap, ◌∙◌, arith, append_assoc, codes}
 use Rattle.kms_world.specs.declared.reply.Reply.{Reply}
 use Rattle.http.specs.StatusCode.{code_digits}
-use Rattle.kms_http.specs.Forms.{crlf}
-use Rattle.kms_http.specs.Spelled.{field}
+use Rattle.kms_http.specs.Lines.{crlf}
+use Rattle.kms_http.specs.Lines.{field}
 use Rattle.kms_http.specs.Date.{date_of}
 use Rattle.kms_http.specs.Reply.{printed, status_line, reason_of, media_field, length_field, allow_field, challenge_field, close_field, fault_reply_of}
 use Rattle.kms_http.specs.declared.fault.FaultReply.{FaultReply}

@@ -7,7 +7,7 @@ use Rattle.std.specs.Str.{IsUtf8}
 use Rattle.std.proofs.lemmas.Str.{IsUtf8-from_ascii}
 use Rattle.std.proofs.lemmas.Bool.Decides.{nat_tests}
 use Rattle.std.proofs.lemmas.Str.Ascii.{IsAscii-from_all}
-use Rattle.kms_http.proofs.FormLaws.{both}
+use Rattle.kms_http.proofs.StepLaws.{both}
 use Rattle.httparse.specs.Grammar.{is_token_byte, AllPass}
 
 -- a byte that stands in an ASCII text is ASCII

@@ -12,7 +12,7 @@ use Rattle.httparse.specs.Pieces.{is_newline}
 use Rattle.httparse.proofs.PieceLemmas.{space_ends_token, Stops_token}
 use Rattle.httparse.proofs.GrammarLemmas.{print_request-append}
 use Rattle.kms_http.specs.Heads.{run, after_run, ends_in, end_at, after_end, fields_at, last_at, at_method, at_target, at_version, at_fields, parts_of, is_field, is_head, if_head, whole_head}
-use Rattle.kms_http.proofs.FormLaws.{both}
+use Rattle.kms_http.proofs.StepLaws.{both}
 use Rattle.kms_http.proofs.PastLaws.{some_same}
 use Rattle.kms_http.proofs.RunLaws.{run-stops, blank-ends, blank-newlines, end-at, section-length, section-read}
 

@@ -3,12 +3,11 @@ pub mod Cuts
 pub mod Date
 pub mod Elements
 pub mod Fields
-pub mod Forms
-pub mod Found
 pub mod Framing
 pub mod HeadEnd
 pub mod Heads
 pub mod Identity
+pub mod Lines
 pub mod MessageFound
 pub mod MessageReaderFields
 pub mod MessageReads
@@ -16,13 +15,9 @@ pub mod MessageStream
 pub mod Messages
 pub mod Methods
 pub mod Quiet
-pub mod ReaderFields
 pub mod Reading
-pub mod Reads
 pub mod Reply
 pub mod Routes
 pub mod Routing
 pub mod Sizes
-pub mod Spelled
-pub mod Stream
 pub mod Targets

@@ -3,7 +3,7 @@ use Rattle.std.specs.Prelude.{◌≡◌, ℕ, ◌+◌, ◌-◌, ◌≤◌, ◌<�
 use Rattle.httparse.specs.Spans.{span_bytes, header_bytes}
 use Rattle.httparse.specs.declared.spans.HeaderSpan.{HeaderSpan}
 use Rattle.httparse.specs.declared.spans.RequestSpans.{RequestSpans}
-use Rattle.kms_http.specs.Forms.{head_len}
+use Rattle.kms_http.specs.HeadEnd.{head_len}
 use Rattle.kms_http.specs.HeadEnd.{head_limit}
 use Rattle.kms_http.specs.Messages.{Front, front}
 use Rattle.kms_http.specs.Messages.Front.{Whole, Bad, Part}

@@ -1,8 +1,8 @@
 -- The messages of a stream one after the other, of which a line is served so many.
 use Rattle.std.specs.Prelude.{ℕ, zero, suc, ◌+◌, List, Bool, true, ◌||◌, ◌==◌, Option, Some, None, if◌then◌else◌}
 use Rattle.std.specs.Option.{option_and_then}
-use Rattle.kms_world.specs.declared.refusal.Refusal.{Refusal}
-use Rattle.kms_http.specs.declared.message.Message.{Message}
+use Rattle.kms_http.specs.declared.served.Served.{Served}
+use Rattle.kms_http.specs.declared.served.Served.TheVariants.{Asking, Unreadable}
 use Rattle.kms_http.specs.Messages.{Front, front}
 use Rattle.kms_http.specs.Messages.Front.{Whole, Bad, Part}
 
@@ -30,11 +30,7 @@ unfoldable pub after : (most n : ℕ) → List ℕ → Option After
 after most zero bytes = Some (Going bytes)
 after most (suc n) bytes = option_and_then (onward (n + 1 == most)) (after most n bytes)
 
--- what is served at a place of the stream: a message, or why the bytes there are none
-pub data Served : Type 0 where
-  Asking : Message → Served
-  Unreadable : Refusal → Served
-
+-- what is served where the bytes have this at their front
 abbrev pub served : Front → Option Served
 served (Whole message rest) = Some (Asking message)
 served (Bad refusal) = Some (Unreadable refusal)

@@ -5,7 +5,7 @@ use Rattle.httparse.specs.Grammar.{RequestHead}
 use Rattle.httparse.specs.Spans.{name_and_value}
 use Rattle.kms_http.specs.Fields.{Pair}
 use Rattle.kms_http.specs.Framing.{framing, closes}
-use Rattle.kms_http.specs.Forms.{head_len}
+use Rattle.kms_http.specs.HeadEnd.{head_len}
 use Rattle.kms_http.specs.declared.message.Head.{Head}
 use Rattle.kms_http.specs.declared.message.Message.{Message}
 use Rattle.kms_http.specs.HeadEnd.{head_limit}

@@ -1,6 +1,6 @@
 -- How far a head's end was looked for.
 use Rattle.std.specs.Prelude.{◌≡◌, ℕ, ◌<◌, List, drop, None}
-use Rattle.kms_http.specs.Forms.{past, empty_line}
+use Rattle.kms_http.specs.HeadEnd.{past, empty_line}
 
 -- no empty line begins before this place
 abbrev pub IsQuiet : ℕ → List ℕ → Type 0

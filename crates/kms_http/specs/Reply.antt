@@ -10,8 +10,8 @@ use Rattle.kms_http.specs.declared.fault.FaultReply.{FaultReply}
 use Rattle.kms_http.specs.declared.fault.FaultReply.TheVariants.{F1, F2, F3}
 use Rattle.kms_http.specs.Allow.{allow_text}
 use Rattle.kms_http.specs.Date.{date_of}
-use Rattle.kms_http.specs.Spelled.{with_crlf, field}
-use Rattle.kms_http.specs.Forms.{crlf}
+use Rattle.kms_http.specs.Lines.{with_crlf, field}
+use Rattle.kms_http.specs.Lines.{crlf}
 
 abbrev pub media_text : Media2 → List ℕ
 media_text Json = codes "application/json"

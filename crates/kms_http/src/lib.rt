@@ -2,21 +2,15 @@
 #![tactic(auto)]
 
 mod allow;
-mod body;
 mod caller;
 mod close;
 mod date;
 mod elements;
 mod fault;
 mod fields;
-mod form;
 mod framing;
-mod front;
-mod head;
 mod head_end;
 mod head_parts;
-mod identity;
-pub mod laws;
 mod message;
 mod message_front;
 pub mod message_laws;
@@ -27,14 +21,11 @@ mod message_tests;
 mod method;
 mod past;
 mod path;
-mod read;
-mod reader;
 mod reply;
-mod request;
 mod routes;
 mod routing;
+mod served;
 mod shapes;
-mod size;
 #[cfg(test)]
 mod table;
 mod target;
@@ -50,9 +41,7 @@ pub use message::{Head, Message};
 pub use message_read::MessageRead;
 pub use message_reader::MessageReader;
 pub use path::Path;
-pub use read::Read;
-pub use reader::Reader;
 pub use reply::print;
-pub use request::Request;
 pub use routes::Routes;
 pub use routing::{RouteFault, route};
+pub use served::Served;

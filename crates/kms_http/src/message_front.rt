@@ -3,7 +3,7 @@ ghost use Rattle.std.specs.Prelude.{◌≡◌, ◌≤◌, Ok, IfOk, length, take
 ghost use Rattle.std.specs.Str.{IsUtf8};
 ghost use Rattle.httparse.specs.Spans.{IsHeaderWithin, IsRequestWithin, header_bytes, span_bytes};
 ghost use Rattle.kms_http.specs.MessageFound.{IsFound, IsFoundAfter, head_at};
-ghost use Rattle.kms_http.specs.Forms.{head_len};
+ghost use Rattle.kms_http.specs.HeadEnd.{head_len};
 ghost use Rattle.kms_http.specs.HeadEnd as ends;
 ghost use Rattle.kms_http.specs.Messages as spec;
 ghost use Rattle.kms_http.specs.Quiet.{IsQuiet};

@@ -2,7 +2,8 @@
 ghost use Rattle.kms_http.specs.Cuts.{KeepsMessages, KeepsRefusals};
 ghost use Rattle.std.specs.Prelude.{◌≡◌, ℕ, ◌++◌, Some};
 ghost use Rattle.kms_http.specs.Heads.{IsWholeHead};
-ghost use Rattle.kms_http.specs.MessageStream.{Served, served_at};
+ghost use Rattle.kms_http.specs.MessageStream.{served_at};
+ghost use Rattle.kms_http.specs.declared.served.Served.{Served};
 ghost use Rattle.kms_http.specs.Routing.{AllowTells};
 ghost use Rattle.kms_http.specs.Sizes.{AreShort, ArePartsShort};
 

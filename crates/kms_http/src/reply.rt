@@ -1,12 +1,13 @@
 // Printed replies.
-ghost use Rattle.std.specs.Prelude.{◌≡◌, ◌<◌, ◌++◌, IfOk, OnOk, is_some, true};
+ghost use Rattle.std.specs.Prelude.{◌≡◌, ◌<◌, ◌++◌, [], IfOk, OnOk, is_some, true};
 ghost use Rattle.http.specs.StatusCode.{reason_phrase};
 ghost use Rattle.kms_http.specs.Reply as spec;
-ghost use Rattle.kms_http.specs.Spelled.{field};
+ghost use Rattle.kms_http.specs.Lines.{field};
 
 use crate::allow::put_allow;
 use crate::date::date_text;
 use http::StatusCode;
+use itoa::Buffer;
 use kms_world::{Allow, Bytes, Media2, NoMemory, Reply};
 use std::alloc::Global;
 
@@ -69,12 +70,12 @@ fn put_media(out: &mut Bytes, media: Option<Media2>) -> Result<(), NoMemory>
     Ok(())
 }
 
-fn put_length(alloc: Global, out: &mut Bytes, status: u16, size: usize) -> Result<(), NoMemory>
+fn put_length(out: &mut Bytes, status: u16, size: usize) -> Result<(), NoMemory>
     ensures { OnOk result (out.new ≡ out.old ++ spec.length_field status size) }
 {
     if status != 204 {
-        let size = size.to_string(alloc)?;
-        put_field(out, b"Content-Length", size.as_bytes())?;
+        let mut buffer = Buffer::new();
+        put_field(out, b"Content-Length", buffer.format(size).as_bytes())?;
     }
     Ok(())
 }
@@ -110,6 +111,16 @@ fn put_close(out: &mut Bytes, close: bool) -> Result<(), NoMemory>
     Ok(())
 }
 
+// The head of a reply has fewer bytes, so that a reply takes its memory at once.
+const HEAD_ROOM: usize = 320;
+
+// No bytes, with memory for so many.
+fn with_room(alloc: Global, room: usize) -> Result<Bytes, NoMemory>
+    ensures { IfOk result (λ b. b ≡ []) }
+{
+    Ok(Bytes::from_vec(Vec::with_capacity(alloc, room)?))
+}
+
 /// The bytes of a reply, dated with this second since 1970, and saying that the line ends where `close` (RFC 9112
 /// sections 2.1 and 4).
 #[tactic(auto, using(std::proofs::lemmas::List::append_assoc), unfolding(crate::specs::Reply::printed))]
@@ -119,11 +130,11 @@ pub fn print(alloc: Global, reply: &Reply, moment: u64, close: bool) -> Result<B
     ensures { IfOk result (λ b. b ≡ spec.printed reply.now moment close) }
 {
     let body = reply.body.as_slice();
-    let mut out = Bytes::new(alloc);
+    let mut out = with_room(alloc, HEAD_ROOM + body.len())?;
     put_status(&mut out, reply.status)?;
     put_field(&mut out, b"Date", &date_text(moment))?;
     put_media(&mut out, reply.media)?;
-    put_length(alloc, &mut out, reply.status, body.len())?;
+    put_length(&mut out, reply.status, body.len())?;
     put_allowed(&mut out, reply.status, reply.allow)?;
     put_challenge(&mut out, reply.status)?;
     put_close(&mut out, close)?;

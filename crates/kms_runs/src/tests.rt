@@ -1,5 +1,6 @@
 // Bytes in, bytes out: requests and replies from outside, and that a run succeeds where memory is ample.
 mod init;
+mod reading;
 mod status;
 mod store;
 
@@ -25,15 +26,8 @@ const SHOWN: &[u8] =
 const GET_SECOND: &[u8] =
     b"GET /v1/secrets/01234567-89ab-8cde-8000-000000000001 HTTP/1.1\r\nX-Project-Id: p1\r\nX-User-Id: u1\r\nX-Roles: creator\r\n\r\n";
 
-// A message of the right form but for its body.
-const ANOTHER_BODY: &[u8] =
-    b"POST /v1/secrets HTTP/1.1\r\nX-Project-Id: p1\r\nX-User-Id: u1\r\nX-Roles: creator\r\nContent-Type: application/json\r\nContent-Length: 12\r\n\r\n{\"nama\":\"a\"}";
-
 const ABSENT: &[u8] =
     b"HTTP/1.1 404 Not Found\r\nDate: Sat, 26 Oct 1985 08:20:00 GMT\r\nContent-Type: application/json\r\nContent-Length: 57\r\n\r\n{\"code\":404,\"description\":\"NoObject\",\"title\":\"Not Found\"}";
-
-const REFUSED: &[u8] =
-    b"HTTP/1.1 400 Bad Request\r\nDate: Sat, 26 Oct 1985 08:20:00 GMT\r\nContent-Type: application/json\r\nContent-Length: 61\r\nConnection: close\r\n\r\n{\"code\":400,\"description\":\"BadMessage\",\"title\":\"Bad Request\"}";
 
 const WORDS: [&str; 7] = [
     "pipe",
@@ -112,24 +106,9 @@ fn secrets_are_made_and_shown(rt: HostRuntime) -> Result<(), Fail> {
 fn streams_end_inside_messages(rt: HostRuntime) -> Result<(), Fail> {
     let alloc = rt.alloc();
     let cut = joined(alloc, &[POST, &POST[..137]])?;
-    let no_head = [b'A'; 511];
     assert!(rt; serves(alloc, b"HELLO", 2, None, Status::Rest(0), b"")?);
-    assert!(rt; serves(alloc, &no_head, 100, None, Status::Rest(0), b"")?);
+    assert!(rt; serves(alloc, &cut, 1, None, Status::Rest(144), CREATED)?);
     assert!(rt; serves(alloc, &cut, 100, None, Status::Rest(144), CREATED)?);
-    Ok(())
-}
-
-#[test]
-fn what_is_no_message_ends_the_line(rt: HostRuntime) -> Result<(), Fail> {
-    let alloc = rt.alloc();
-    let no_head = [b'A'; 512];
-    let after = joined(alloc, &[POST, b"HELLO\r\n\r\n", POST])?;
-    let refused = joined(alloc, &[CREATED, REFUSED])?;
-    let bad = Status::Unreadable(0);
-    assert!(rt; serves(alloc, b"HELLO\r\n\r\n", 9, None, bad, REFUSED)?);
-    assert!(rt; serves(alloc, &no_head, 100, None, bad, REFUSED)?);
-    assert!(rt; serves(alloc, ANOTHER_BODY, 144, None, bad, REFUSED)?);
-    assert!(rt; serves(alloc, &after, 1, None, Status::Unreadable(144), &refused)?);
     Ok(())
 }
 

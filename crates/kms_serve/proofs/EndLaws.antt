@@ -7,8 +7,8 @@ use Rattle.kms_host.specs.declared.call.Call.{Call}
 use Rattle.kms_host.specs.declared.call.Call.TheVariants.{Text, Listened, Came, Attached, Took, Gave, Shut, OnFile, Told, Drew}
 use Rattle.kms_host.proofs.Moments.{at_moment}
 use Rattle.kms_model.specs.declared.event.Mark.{Mark}
-use Rattle.kms_http.specs.Stream.{after}
-use Rattle.kms_http.specs.Stream.After.{Going, Over, Broken}
+use Rattle.kms_http.specs.MessageStream.{after}
+use Rattle.kms_http.specs.MessageStream.After.{Going, Over, Broken}
 use Rattle.kms_serve.specs.RunStart.{RunStart}
 use Rattle.kms_serve.specs.Events.{events, most}
 use Rattle.kms_serve.specs.Answered.{Answered}
@@ -40,7 +40,7 @@ true_false : true ≡ false → ⊥
 true_false e = cc
 
 broken : (place : ℕ) (calls : List Call) → EndsUnreadable place calls → after most (length (events calls)) (taken 0 calls) ≡ Some Broken
-broken place calls u = ap (λ n. after most n (taken 0 calls)) u.last ∙ after-bad u.before (taken 0 calls) u.rest u.held u.bad
+broken place calls u = ap (λ n. after most n (taken 0 calls)) u.last ∙ after-bad u.before (taken 0 calls) u.rest u.refusal u.held u.bad
 
 clean_inside : (place : ℕ) (calls : List Call) → EndsClean calls → EndsInside place calls → ⊥
 clean_inside place calls (inl clean) i =

@@ -4,10 +4,13 @@ use Rattle.std.specs.Prelude.{◌||◌}
 use Rattle.kms_host.specs.Line.{taken, failed_on, OnlyGives}
 use Rattle.kms_host.specs.declared.call.Call.{Call}
 use Rattle.kms_host.specs.declared.call.Call.TheVariants.{Text, Listened, Came, Attached, Took, Gave, Shut, OnFile, Told, Drew}
-use Rattle.kms_http.specs.declared.request.Request.{Request}
-use Rattle.kms_http.specs.Stream.{front, After, after, Served, served, served_at}
-use Rattle.kms_http.specs.Stream.Front.{Whole, Bad}
-use Rattle.kms_http.specs.Stream.After.{Going, Over, Broken}
+use Rattle.kms_http.specs.declared.message.Message.{Message}
+use Rattle.kms_http.specs.Messages.{front}
+use Rattle.kms_http.specs.MessageStream.{After, after, served, served_at}
+use Rattle.kms_http.specs.declared.served.Served.{Served}
+use Rattle.kms_http.specs.Messages.Front.{Whole, Bad}
+use Rattle.kms_http.specs.MessageStream.After.{Going, Over, Broken}
+use Rattle.kms_world.specs.declared.refusal.Refusal.{Refusal}
 use Rattle.kms_serve.specs.Events.{events, event, event_at, most}
 
 pub events-gives : (line : ℕ) (gives early : List Call) → OnlyGives line gives → events (gives ++ early) ≡ events early
@@ -46,18 +49,18 @@ after-first held e = rw e refl
 abbrev pub stand : (last : Bool) → (rest : List ℕ) → After
 stand last rest = cond last Over (Going rest)
 
-after-suc : (n : ℕ) (bytes held rest : List ℕ) (q : Request) (c : Bool) → after most n bytes ≡ Some (Going held) → front held ≡ Whole q c rest
-    → after most (suc n) bytes ≡ Some (stand (c || nat_eq (n + 1) most) rest)
+after-suc : (n : ℕ) (bytes held rest : List ℕ) (m : Message) → after most n bytes ≡ Some (Going held) → front held ≡ Whole m rest
+    → after most (suc n) bytes ≡ Some (stand (m.close || nat_eq (n + 1) most) rest)
 unfolding after
-after-suc n bytes held rest q c e f = rw (e, f) refl
+after-suc n bytes held rest m e f = rw (e, f) refl
 
-pub after-next : (n : ℕ) (bytes held rest : List ℕ) (q : Request) (c : Bool) → after most n bytes ≡ Some (Going held) → front held ≡ Whole q c rest
-    → after most (n + 1) bytes ≡ Some (stand (c || nat_eq (n + 1) most) rest)
-after-next n bytes held rest q c e f = ap (λ k. after most k bytes) (add-one n) ∙ after-suc n bytes held rest q c e f
+pub after-next : (n : ℕ) (bytes held rest : List ℕ) (m : Message) → after most n bytes ≡ Some (Going held) → front held ≡ Whole m rest
+    → after most (n + 1) bytes ≡ Some (stand (m.close || nat_eq (n + 1) most) rest)
+after-next n bytes held rest m e f = ap (λ k. after most k bytes) (add-one n) ∙ after-suc n bytes held rest m e f
 
-broken-suc : (n : ℕ) (bytes held : List ℕ) → after most n bytes ≡ Some (Going held) → front held ≡ Bad → after most (suc n) bytes ≡ Some Broken
+broken-suc : (n : ℕ) (bytes held : List ℕ) (refusal : Refusal) → after most n bytes ≡ Some (Going held) → front held ≡ Bad refusal → after most (suc n) bytes ≡ Some Broken
 unfolding after
-broken-suc n bytes held e f = rw (e, f) refl
+broken-suc n bytes held refusal e f = rw (e, f) refl
 
-pub after-bad : (n : ℕ) (bytes held : List ℕ) → after most n bytes ≡ Some (Going held) → front held ≡ Bad → after most (n + 1) bytes ≡ Some Broken
-after-bad n bytes held e f = ap (λ k. after most k bytes) (add-one n) ∙ broken-suc n bytes held e f
+pub after-bad : (n : ℕ) (bytes held : List ℕ) (refusal : Refusal) → after most n bytes ≡ Some (Going held) → front held ≡ Bad refusal → after most (n + 1) bytes ≡ Some Broken
+after-bad n bytes held refusal e f = ap (λ k. after most k bytes) (add-one n) ∙ broken-suc n bytes held refusal e f

@@ -13,6 +13,7 @@ use Rattle.kms_host.proofs.LineLaws.{sent-append, taken-gives, times-gives, at_e
 use Rattle.kms_host.proofs.Moments.{at_now, at_map, then_calls-append}
 use Rattle.kms_journal.specs.Device.{IsQuietStore}
 use Rattle.kms_world.specs.State.{State}
+use Rattle.kms_world.specs.declared.refusal.Refusal.{Refusal}
 use Rattle.kms_core.specs.Settling.{IsSettledOrAll}
 use Rattle.kms_core.specs.Stands.{Stands}
 use Rattle.kms_core.specs.Steps.{Held, IsSettled}
@@ -20,10 +21,12 @@ use Rattle.kms_model.specs.Run.{answer_at, state_at, stores_at, steps_if}
 use Rattle.kms_model.specs.declared.event.Mark.{Mark}
 use Rattle.kms_http.specs.Reading.{Reading}
 use Rattle.kms_http.specs.Reply.{fault_reply_of}
-use Rattle.kms_http.specs.Stream.{front, After, after, Served, served}
-use Rattle.kms_http.specs.Stream.Front.{Bad, Part}
-use Rattle.kms_http.specs.Stream.After.{Going, Over, Broken}
-use Rattle.kms_http.specs.Stream.Served.{Unreadable}
+use Rattle.kms_http.specs.Messages.{front}
+use Rattle.kms_http.specs.MessageStream.{After, after, served}
+use Rattle.kms_http.specs.declared.served.Served.{Served}
+use Rattle.kms_http.specs.Messages.Front.{Bad, Part}
+use Rattle.kms_http.specs.MessageStream.After.{Going, Over, Broken}
+use Rattle.kms_http.specs.declared.served.Served.TheVariants.{Unreadable}
 use Rattle.kms_http.specs.declared.fault.FaultReply.TheVariants.{F1}
 use Rattle.kms_serve.specs.RunStart.{RunStart, history}
 use Rattle.kms_serve.specs.Events.{LineEvent, events, event, event_at, most}
@@ -42,7 +45,7 @@ use Rattle.kms_serve.proofs.EventLaws.{events-gives, events-told, served_at-next
 use Rattle.kms_serve.proofs.GiveLaws.{only_gives, left_rest, sent_on, on_line-append, on_line-nil, fails-append}
 use Rattle.kms_serve.proofs.ReplyLaws.{state_by-more, steps_by-more, steps_by-marks, replies-more, replies-marks, due-marks, before_newest-more, fault_on-more, length-before_newest, on_event}
 use Rattle.kms_serve.proofs.StoreCallLaws.{same_by_files, store_failed-append, store_failed-gives, both_unfailed, unfailed_before}
-use Rattle.kms_http.proofs.StreamLaws.{after-more}
+use Rattle.kms_http.proofs.MessageStreamLaws.{after-more}
 
 turn_marks : (endpoint : List ℕ) (b : RunStart) (marks more : List Mark) (calls : List Call) → length (events calls) ≤ length marks
     → InTurn endpoint b marks calls → InTurn endpoint b (marks ++ more) calls
@@ -595,18 +598,18 @@ faulting_prepared endpoint b s then owed sv x y is fault o p =
     (subst (FaultingAt endpoint b (fault_reply_of F1)) (sym (ap (λ z. z ++ x) p.made ∙ unpack p.files x p.time))
     (faulted_at endpoint b s then (Going s.reader.held) sv p.time p.mark x o one p.state p.files p.only p.unfailed (steps_needed _ p.files p.idle) settled.each (p.failed ∙ fault)))
 
-pub refusing_prepared : (endpoint : List ℕ) (b : RunStart) (s t : Serving) (owed : Owed) (x y : List Call)
-    → front s.reader.held ≡ Bad
+pub refusing_prepared : (endpoint : List ℕ) (b : RunStart) (s t : Serving) (refusal : Refusal) (owed : Owed) (x y : List Call)
+    → front s.reader.held ≡ Bad refusal
     → t.count ≡ s.count + 1
     → t.reader ≡ s.reader
     → is_fault owed ≡ false
     → GoodAt endpoint b s x
-    → PreparesReply endpoint s.engine t.engine Unreadable s.count owed (history b x) y
+    → PreparesReply endpoint s.engine t.engine (Unreadable refusal) s.count owed (history b x) y
     → RefusingAt endpoint b t s.reader.passed (owed_bytes owed) (y ++ x)
-refusing_prepared endpoint b s t owed x y bad count reader well o p =
+refusing_prepared endpoint b s t refusal owed x y bad count reader well o p =
     let held : after most t.count (taken 0 x) ≡ Some Broken =
-    ap (λ n. after most n (taken 0 x)) count ∙ after-bad s.count (taken 0 x) s.reader.held o.held bad in
-    let owing = owing_prepared endpoint b s t Broken owed Unreadable x y (ap served bad) count (ap (λ (r : Reading). r.passed + length r.held) reader) held well o p in
+    ap (λ n. after most n (taken 0 x)) count ∙ after-bad s.count (taken 0 x) s.reader.held refusal o.held bad in
+    let owing = owing_prepared endpoint b s t Broken owed (Unreadable refusal) x y (ap served bad) count (ap (λ (r : Reading). r.passed + length r.held) reader) held well o p in
     let calls : y ++ x ≡ p.files ++ Told p.time ∷ x = ap (λ z. z ++ x) p.made ∙ unpack p.files x p.time in
     let bytes : taken 0 (y ++ x) ≡ taken 0 x = ap (taken 0) calls ∙ same_by_files (taken 0) (λ file c calls. refl) p.files (Told p.time ∷ x) p.only in
     record {
@@ -616,6 +619,7 @@ refusing_prepared endpoint b s t owed x y bad count reader well o p =
         rest = s.reader.held;
         last = sym owing.counted ∙ count;
         held = rw bytes o.held;
+        refusal = refusal;
         bad = bad;
         at = rw bytes o.place;
       };
@@ -635,6 +639,7 @@ refusing_given E endpoint b s place owed x y r g =
         rest = u.rest;
         last = rw same u.last;
         held = rw bytes u.held;
+        refusal = u.refusal;
         bad = u.bad;
         at = rw bytes u.at;
       };
@@ -653,7 +658,7 @@ ended_refused endpoint b s place calls r =
       end = (
         all_given endpoint b s Broken calls o,
         kept_same b o.marks s.engine calls (Shut 0 ∷ calls) (same_shut (history b calls) 0) refl o.state o.settled o.quiet o.unfailed,
-        record { before = u.before; rest = u.rest; last = u.last; held = u.held; bad = u.bad; at = u.at },
+        record { before = u.before; rest = u.rest; last = u.last; held = u.held; refusal = u.refusal; bad = u.bad; at = u.at },
         refl,
       );
     }

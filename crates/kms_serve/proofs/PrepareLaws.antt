@@ -24,7 +24,7 @@ use Rattle.kms_kept.specs.Kept.{Kept}
 use Rattle.kms_core.proofs.StandsLaws.{one_state}
 use Rattle.kms_host.specs.Disk.{files}
 use Rattle.kms_http.specs.Reply.{fault_reply_of}
-use Rattle.kms_http.specs.Stream.{Served}
+use Rattle.kms_http.specs.declared.served.Served.{Served}
 use Rattle.kms_http.specs.declared.fault.FaultReply.TheVariants.{F1}
 use Rattle.kms_serve.specs.Events.{event}
 use Rattle.kms_serve.specs.Owed.{Responds, Settled, PreparesReply, owed_bytes, is_fault, steps_at}

@@ -17,8 +17,8 @@ use Rattle.kms_record.specs.declared.key.WrappedKey.{WrappedKey}
 use Rattle.kms_core.specs.Stands.{Stands}
 use Rattle.kms_core.proofs.StandsLaws.{one_state}
 use Rattle.kms_host.proofs.Moments.{by_moment-last}
-use Rattle.kms_http.specs.Stream.{after}
-use Rattle.kms_http.specs.Stream.After.{Going, Over}
+use Rattle.kms_http.specs.MessageStream.{after}
+use Rattle.kms_http.specs.MessageStream.After.{Going, Over}
 use Rattle.kms_serve.specs.Answered.{Answered}
 use Rattle.kms_serve.specs.RunStart.{RunStart, history}
 use Rattle.kms_serve.specs.Events.{events}

@@ -8,11 +8,14 @@ use Rattle.kms_host.specs.declared.call.Call.TheVariants.{Shut}
 use Rattle.kms_host.specs.declared.call.Failed.{Failed}
 use Rattle.kms_host.proofs.Moments.{since_since, since_since_call}
 use Rattle.kms_core.specs.Steps.{Held}
-use Rattle.kms_http.specs.declared.request.Request.{Request}
-use Rattle.kms_http.specs.Stream.{front, Served, served, after}
-use Rattle.kms_http.specs.Stream.Front.{Whole, Bad}
-use Rattle.kms_http.specs.Stream.After.{Going, Over}
-use Rattle.kms_http.specs.Stream.Served.{Asking, Unreadable}
+use Rattle.kms_http.specs.declared.message.Message.{Message}
+use Rattle.kms_http.specs.Messages.{front}
+use Rattle.kms_http.specs.MessageStream.{served, after}
+use Rattle.kms_http.specs.declared.served.Served.{Served}
+use Rattle.kms_http.specs.Messages.Front.{Whole, Bad}
+use Rattle.kms_http.specs.MessageStream.After.{Going, Over}
+use Rattle.kms_http.specs.declared.served.Served.TheVariants.{Asking, Unreadable}
+use Rattle.kms_world.specs.declared.refusal.Refusal.{Refusal}
 use Rattle.kms_serve.specs.Events.{most}
 use Rattle.kms_serve.specs.RunStart.{run_start, FromStore}
 use Rattle.kms_serve.specs.Owed.{PreparesReply, Gives, GivesFault, owed_bytes, is_fault}
@@ -26,34 +29,34 @@ use Rattle.kms_serve.proofs.OwingLaws.{done, owing_prepared, owing_given, ended_
 
 -- Of a store that stood for no state when the run began nothing is said here.
 
-pub since_answered : {a d c : Option History} (endpoint store : List ℕ) (s t : Serving) (q : Request) (close last : Bool) (owed : Owed)
-    → front s.reader.held ≡ Whole q close t.reader.held
+pub since_answered : {a d c : Option History} (endpoint store : List ℕ) (s t : Serving) (m : Message) (last : Bool) (owed : Owed)
+    → front s.reader.held ≡ Whole m t.reader.held
     → t.reader.passed + length t.reader.held ≡ s.reader.passed + length s.reader.held
     → t.count ≡ s.count + 1
-    → last ≡ (close || nat_eq (s.count + 1) most)
+    → last ≡ (m.close || nat_eq (s.count + 1) most)
     → is_fault owed ≡ false
     → Good endpoint store a d s
-    → Since d c (λ was calls. PreparesReply endpoint s.engine t.engine (Asking q close) s.count owed was calls)
+    → Since d c (λ was calls. PreparesReply endpoint s.engine t.engine (Asking m) s.count owed was calls)
     → Owing endpoint store a c t (stand last t.reader.held) (owed_bytes owed)
-since_answered endpoint store s t q close last owed whole place count is_last well good prepared =
+since_answered endpoint store s t m last owed whole place count is_last well good prepared =
     since_since (λ was calls. FromStore store was (λ b. OwingAt endpoint b t (stand last t.reader.held) (owed_bytes owed) calls)) good prepared
     (λ was x y h p keys first steps stands.
     let o = h keys first steps stands in
-    let here = ap (λ n. after most n (taken 0 x)) count ∙ after-next s.count (taken 0 x) s.reader.held t.reader.held q close o.held whole in
+    let here = ap (λ n. after most n (taken 0 x)) count ∙ after-next s.count (taken 0 x) s.reader.held t.reader.held m o.held whole in
     let held = subst (λ (l : Bool). after most t.count (taken 0 x) ≡ Some (stand l t.reader.held)) (sym is_last) here in
-    owing_prepared endpoint _ s t (stand last t.reader.held) owed (Asking q close) x y (ap served whole) count place held well o p)
+    owing_prepared endpoint _ s t (stand last t.reader.held) owed (Asking m) x y (ap served whole) count place held well o p)
 
-pub since_refused : {a d c : Option History} (endpoint store : List ℕ) (s t : Serving) (owed : Owed)
-    → front s.reader.held ≡ Bad
+pub since_refused : {a d c : Option History} (endpoint store : List ℕ) (s t : Serving) (refusal : Refusal) (owed : Owed)
+    → front s.reader.held ≡ Bad refusal
     → t.count ≡ s.count + 1
     → t.reader ≡ s.reader
     → is_fault owed ≡ false
     → Good endpoint store a d s
-    → Since d c (λ was calls. PreparesReply endpoint s.engine t.engine Unreadable s.count owed was calls)
+    → Since d c (λ was calls. PreparesReply endpoint s.engine t.engine (Unreadable refusal) s.count owed was calls)
     → Since a c (λ was calls. FromStore store was (λ b. RefusingAt endpoint b t s.reader.passed (owed_bytes owed) calls))
-since_refused endpoint store s t owed bad count reader well good prepared =
+since_refused endpoint store s t refusal owed bad count reader well good prepared =
     since_since (λ was calls. FromStore store was (λ b. RefusingAt endpoint b t s.reader.passed (owed_bytes owed) calls)) good prepared
-    (λ was x y h p keys first steps stands. refusing_prepared endpoint _ s t owed x y bad count reader well (h keys first steps stands) p)
+    (λ was x y h p keys first steps stands. refusing_prepared endpoint _ s t refusal owed x y bad count reader well (h keys first steps stands) p)
 
 -- the store failed, and its fault is given as far as it goes
 pub since_faulted : {a d c e : Option History} (endpoint store : List ℕ) (s : Serving) (then : Held) (sv : Served) (owed : Owed)

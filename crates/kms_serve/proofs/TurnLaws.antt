@@ -1,13 +1,14 @@
 -- Each turn answers a message or takes a byte, and a line has no more of both than a bound.
-use Rattle.std.proofs.Common.{◌≡◌, ℕ, ◌+◌, ◌*◌, ◌≤◌, ◌<◌, List, [], ◌++◌, length, take, drop, Bool, ap, ◌∙◌, arith, length-append, length-drop}
+use Rattle.std.proofs.Common.{◌≡◌, ℕ, ◌+◌, ◌*◌, ◌≤◌, ◌<◌, List, [], ◌++◌, length, take, drop, ap, ◌∙◌, arith, length-append, length-drop}
 use Rattle.std.proofs.lemmas.List.{length-take-le}
 use Rattle.kms_http.specs.Reading.{Reading}
-use Rattle.kms_http.specs.Stream.{front, longest}
-use Rattle.kms_http.specs.Stream.Front.{Whole, Part}
-use Rattle.kms_http.specs.declared.request.Request.{Request}
+use Rattle.kms_http.specs.Messages.{front}
+use Rattle.kms_http.specs.Sizes.{longest}
+use Rattle.kms_http.specs.Messages.Front.{Whole, Part}
+use Rattle.kms_http.specs.declared.message.Message.{Message}
 use Rattle.kms_serve.specs.Turns.{IsBounded, Progress}
 use Rattle.kms_serve.specs.declared.serving.Serving.{Serving}
-use Rattle.kms_http.proofs.LengthLaws.{whole_shorter, part_short}
+use Rattle.kms_http.proofs.MessageSizeLaws.{message-short, part-short}
 
 -- bytes were fed to a reader that holds a part of a message
 pub fed_more : (s t : Serving) (bytes : List ℕ) → t.count ≡ s.count → t.reader ≡ record { held = s.reader.held ++ bytes; passed = s.reader.passed }
@@ -15,7 +16,7 @@ pub fed_more : (s t : Serving) (bytes : List ℕ) → t.count ≡ s.count → t.
 fed_more s t bytes count reader some fits part bounded =
     let held : length t.reader.held ≡ length s.reader.held + length bytes = ap (λ (r : Reading). length r.held) reader ∙ length-append s.reader.held bytes in
     let passed : t.reader.passed ≡ s.reader.passed = ap (λ (r : Reading). r.passed) reader in
-    let short = part_short s.reader.held part in
+    let short = part-short s.reader.held part in
     record {
       more = omega (arith, held, passed, count, some);
       bounded = record {
@@ -26,18 +27,18 @@ fed_more s t bytes count reader some fits part bounded =
     }
 
 -- what is left to be said of the messages after one was taken out
-pub taken_passed : (s t : Serving) (q : Request) (c : Bool) → front s.reader.held ≡ Whole q c t.reader.held
+pub taken_passed : (s t : Serving) (m : Message) → front s.reader.held ≡ Whole m t.reader.held
     → t.reader.passed + length t.reader.held ≡ s.reader.passed + length s.reader.held → t.count ≡ s.count → IsBounded s
     → t.reader.passed ≤ (t.count + 1) * longest
-taken_passed s t q c whole place count bounded =
-    let shorter = whole_shorter s.reader.held q c t.reader.held whole in
-    let before : s.reader.passed ≤ t.count * 778 = rw count bounded.passed in
-    let sum : (t.count + 1) * 778 ≡ t.count * 778 + 778 = omega arith in
+taken_passed s t m whole place count bounded =
+    let shorter = message-short s.reader.held m t.reader.held whole in
+    let before : s.reader.passed ≤ t.count * 81920 = rw count bounded.passed in
+    let sum : (t.count + 1) * 81920 ≡ t.count * 81920 + 81920 = omega arith in
     omega (arith, shorter.1, place, before, sum)
 
-pub taken_held : (s t : Serving) (q : Request) (c : Bool) → front s.reader.held ≡ Whole q c t.reader.held → IsBounded s → length t.reader.held ≤ longest + 65536
-taken_held s t q c whole bounded =
-    let shorter = whole_shorter s.reader.held q c t.reader.held whole in
+pub taken_held : (s t : Serving) (m : Message) → front s.reader.held ≡ Whole m t.reader.held → IsBounded s → length t.reader.held ≤ longest + 65536
+taken_held s t m whole bounded =
+    let shorter = message-short s.reader.held m t.reader.held whole in
     omega (arith, shorter.0, bounded.held)
 
 -- before the first turn

@@ -5,9 +5,10 @@ use Rattle.kms_host.specs.Store.{apart_from_files, syncs}
 use Rattle.kms_host.specs.declared.call.Call.{Call}
 use Rattle.kms_host.specs.declared.call.Call.TheVariants.{Text, Listened, Came, Attached, Took, Gave, Shut, OnFile, Told, Drew}
 use Rattle.kms_model.specs.declared.event.Mark.{Mark}
-use Rattle.kms_http.specs.Stream.{front, after}
-use Rattle.kms_http.specs.Stream.Front.{Part}
-use Rattle.kms_http.specs.Stream.After.{Going, Over, Broken}
+use Rattle.kms_http.specs.Messages.{front}
+use Rattle.kms_http.specs.MessageStream.{after}
+use Rattle.kms_http.specs.Messages.Front.{Part}
+use Rattle.kms_http.specs.MessageStream.After.{Going, Over, Broken}
 use Rattle.kms_serve.specs.RunStart.{RunStart, history}
 use Rattle.kms_serve.specs.Crash.{IsSafe}
 use Rattle.kms_serve.specs.Events.{events, most}

@@ -7,9 +7,11 @@ use Rattle.kms_host.specs.declared.call.Call.TheVariants.{Text, Listened, Came, 
 use Rattle.kms_journal.specs.Device.{IsQuietStore}
 use Rattle.kms_core.specs.Stands.{Stands}
 use Rattle.kms_model.specs.declared.event.Mark.{Mark}
-use Rattle.kms_http.specs.Stream.{front, after}
-use Rattle.kms_http.specs.Stream.Front.{Bad, Part}
-use Rattle.kms_http.specs.Stream.After.{Going, Over}
+use Rattle.kms_http.specs.Messages.{front}
+use Rattle.kms_http.specs.MessageStream.{after}
+use Rattle.kms_http.specs.Messages.Front.{Bad, Part}
+use Rattle.kms_http.specs.MessageStream.After.{Going, Over}
+use Rattle.kms_world.specs.declared.refusal.Refusal.{Refusal}
 use Rattle.kms_serve.specs.RunStart.{RunStart, history}
 use Rattle.kms_serve.specs.Events.{events, most}
 use Rattle.kms_serve.specs.Replies.{state_by, steps_by, replies, due}
@@ -45,7 +47,8 @@ pub record EndsUnreadable (place : ℕ) (calls : List Call) : Type 0 where
   pub rest : List ℕ
   pub last : length (events calls) ≡ before + 1
   pub held : after most before (taken 0 calls) ≡ Some (Going rest)
-  pub bad : front rest ≡ Bad
+  pub refusal : Refusal
+  pub bad : front rest ≡ Bad refusal
   pub at : place + length rest ≡ length (taken 0 calls)
 
 -- The line was read to its end after a message, or served up to the message that ends it.

@@ -4,7 +4,8 @@ use Rattle.std.specs.Option.{option_to_list}
 use Rattle.kms_host.specs.Line.{taken, failed_on}
 use Rattle.kms_host.specs.declared.call.Call.{Call}
 use Rattle.kms_host.specs.declared.call.Call.TheVariants.{Text, Listened, Came, Attached, Took, Gave, Shut, OnFile, Told, Drew}
-use Rattle.kms_http.specs.Stream.{Served, served_at, is_last}
+use Rattle.kms_http.specs.MessageStream.{served_at, is_last}
+use Rattle.kms_http.specs.declared.served.Served.{Served}
 
 -- the line is served up to this number of requests
 abbrev pub most : ℕ

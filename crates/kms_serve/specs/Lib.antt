@@ -8,6 +8,7 @@ pub mod Opening
 pub mod Owed
 pub mod Owing
 pub mod Replies
+pub mod Requests
 pub mod RunStart
 pub mod Status
 pub mod StoreCalls

@@ -11,7 +11,7 @@ use Rattle.kms_core.specs.Settling.{IsSettledOrAll}
 use Rattle.kms_core.specs.Steps.{Held, IsSettled, Waits}
 use Rattle.kms_model.specs.Run.{answer_at, state_at, stores_at, steps_if}
 use Rattle.kms_model.specs.declared.event.Mark.{Mark}
-use Rattle.kms_http.specs.Stream.{Served}
+use Rattle.kms_http.specs.declared.served.Served.{Served}
 use Rattle.kms_http.specs.Reply.{fault_reply_of}
 use Rattle.kms_http.specs.declared.fault.FaultReply.TheVariants.{F1, F3}
 use Rattle.kms_serve.specs.Events.{LineEvent, event}

@@ -6,8 +6,8 @@ use Rattle.kms_host.specs.declared.call.Call.{Call}
 use Rattle.kms_journal.specs.Device.{IsQuietStore}
 use Rattle.kms_core.specs.Steps.{IsSettled}
 use Rattle.kms_model.specs.declared.event.Mark.{Mark}
-use Rattle.kms_http.specs.Stream.{After, after}
-use Rattle.kms_http.specs.Stream.After.{Going}
+use Rattle.kms_http.specs.MessageStream.{After, after}
+use Rattle.kms_http.specs.MessageStream.After.{Going}
 use Rattle.kms_serve.specs.RunStart.{RunStart, history}
 use Rattle.kms_serve.specs.Events.{events, most}
 use Rattle.kms_serve.specs.Replies.{replies, state_by, steps_by}

@@ -2,23 +2,14 @@
 use Rattle.std.specs.Prelude.{ℕ, List, [], ◌∷◌, ◌++◌, ◌==◌, map, Bool, true, false, Option, Some, None, if◌then◌else◌}
 use Rattle.kms_world.specs.State.{State}
 use Rattle.kms_world.specs.declared.answer.Answer.{Answer}
-use Rattle.kms_world.specs.declared.refusal.Refusal.TheVariants.{BadMessage}
 use Rattle.kms_model.specs.Run.{answers_of, state_of, steps_of}
 use Rattle.kms_model.specs.declared.event.Event.{Event}
 use Rattle.kms_model.specs.declared.event.Mark.{Mark}
-use Rattle.kms_world.specs.declared.operation.Request.{Request}
-use Rattle.kms_world.specs.declared.operation.Request.TheVariants as request
-use Rattle.kms_http.specs.Stream.{Served}
-use Rattle.kms_http.specs.Stream.Served.{Asking, Unreadable}
 use Rattle.kms_http.specs.Reply.{printed, fault_reply_of}
 use Rattle.kms_http.specs.declared.fault.FaultReply.TheVariants.{F1, F3}
 use Rattle.kms_json.specs.Answer.{reply_of}
 use Rattle.kms_serve.specs.Events.{LineEvent}
-
--- what the plain key manager is asked by what was read
-abbrev pub request_of : Served → Request
-request_of (Asking q close) = request.Asking q.caller q.op
-request_of Unreadable = request.Refusing BadMessage
+use Rattle.kms_serve.specs.Requests.{request_of}
 
 abbrev pub asked : LineEvent → Event
 asked e = record { request = request_of e.served; time = e.time }

@@ -1,14 +1,16 @@
 -- What a turn starts from, and what it leaves.
-use Rattle.std.specs.Prelude.{◌≡◌, ℕ, ◌+◌, ◌*◌, ◌≤◌, ◌<◌, List, [], length, Bool, Option}
+use Rattle.std.specs.Prelude.{◌≡◌, ℕ, ◌+◌, ◌*◌, ◌≤◌, ◌<◌, List, [], length, Option}
 use Rattle.kms_host.specs.History.{History}
 use Rattle.kms_host.specs.Faults.{Faults, Rose, NeverFalls}
 use Rattle.kms_host.specs.Moment.{Since}
 use Rattle.kms_host.specs.Line.{IsOpen}
 use Rattle.kms_record.specs.declared.key.WrappedKey.{WrappedKey}
 use Rattle.kms_core.specs.Steps.{Held, IsSettled}
-use Rattle.kms_http.specs.Stream.{After, front, longest}
-use Rattle.kms_http.specs.Stream.Front.{Whole}
-use Rattle.kms_http.specs.declared.request.Request.{Request}
+use Rattle.kms_http.specs.Messages.{front}
+use Rattle.kms_http.specs.MessageStream.{After}
+use Rattle.kms_http.specs.Sizes.{longest}
+use Rattle.kms_http.specs.Messages.Front.{Whole}
+use Rattle.kms_http.specs.declared.message.Message.{Message}
 use Rattle.kms_serve.specs.RunStart.{FromStore}
 use Rattle.kms_serve.specs.Events.{most}
 use Rattle.kms_serve.specs.Owing.{OwingAt, GoodAt, EndedAt}
@@ -43,11 +45,11 @@ pub record CanServe (engine : Held) (h : History) : Type 0 where
 
 -- before the first turn
 abbrev pub serving_of : Held → Serving
-serving_of engine = record { engine = engine; reader = record { held = []; passed = 0 }; count = 0 }
+serving_of engine = record { engine = engine; reader = record { held = []; passed = 0 }; routes = tt; count = 0 }
 
 -- the next message was taken out of the reader, and nothing else was done
-pub record IsTaken (before now : Serving) (request : Request) (close : Bool) : Type 0 where
-  pub whole : front before.reader.held ≡ Whole request close now.reader.held
+pub record IsTaken (before now : Serving) (message : Message) : Type 0 where
+  pub whole : front before.reader.held ≡ Whole message now.reader.held
   pub place : now.reader.passed + length now.reader.held ≡ before.reader.passed + length before.reader.held
   pub engine : now.engine ≡ before.engine
   pub count : now.count ≡ before.count

@@ -10,6 +10,7 @@ mod open;
 mod owed;
 mod prepare;
 mod program;
+mod request;
 mod serving;
 mod status;
 mod words;

@@ -4,8 +4,9 @@ ghost use Rattle.kms_host.specs.History.{History, WhereTold, Stops};
 ghost use Rattle.kms_host.specs.Faults.{NeverFalls};
 ghost use Rattle.kms_host.specs.Line.{IsOpen};
 ghost use Rattle.kms_host.specs.Moment.{Since};
-ghost use Rattle.kms_http.specs.Stream.{front, longest};
-ghost use Rattle.kms_http.specs.Stream.Front.{Bad, Part};
+ghost use Rattle.kms_http.specs.Messages.{front};
+ghost use Rattle.kms_http.specs.Sizes.{longest};
+ghost use Rattle.kms_http.specs.Messages.Front.{Bad, Part};
 ghost use Rattle.kms_serve.specs.Events.{most};
 ghost use Rattle.kms_core.specs.Steps.{IsIdle, IsWorking};
 ghost use Rattle.kms_serve.specs.Owed.{GivesFault, owed_bytes, is_fault};
@@ -19,8 +20,8 @@ use crate::serving::{Serving, Turn};
 use crate::status::Status;
 use kms_core::Engine;
 use kms_host::Host;
-use kms_http::{Read, Reader, Request};
-use kms_world::{NoMemory, Refusal, Request as Asked};
+use kms_http::{Message, MessageRead, MessageReader, Routes, Served};
+use kms_world::{NoMemory, Refusal};
 use std::alloc::Global;
 
 /// A line is served up to this number of requests.
@@ -85,14 +86,13 @@ fn give_fault<H: Host>(host: &mut H, owed: &Owed) -> Status
     Status::StoreFault
 }
 
-// Answers the request that was taken out of the reader.
+// Answers the message that was taken out of the reader.
 fn serve_request<H: Host>(
     alloc: Global,
     endpoint: &str,
     host: &mut H,
     s: &mut Serving,
-    request: Request,
-    close: bool,
+    message: Message,
 ) -> Turn
     requires few { s.old.count < most }
     requires passed { s.old.reader.passed ≤ (s.old.count + 1) * longest }
@@ -100,7 +100,7 @@ fn serve_request<H: Host>(
     requires idle { IsIdle s.old.engine }
     requires working { IsWorking s.old.engine }
     requires ready { WhereTold (H.history host.old) (CanServe s.old.engine) }
-    ensures good { (store : List ℕ) (start : Option History) (before : Session) → IsTaken before s.old request close →
+    ensures good { (store : List ℕ) (start : Option History) (before : Session) → IsTaken before s.old message →
         Good endpoint.now store start (H.history host.old) before → Left endpoint.now store start (H.history host.new) s.new result }
     ensures idle { result ≡ Turn.Went → IsIdle s.new.engine }
     ensures working { result ≡ Turn.Went → IsWorking s.new.engine }
@@ -109,14 +109,15 @@ fn serve_request<H: Host>(
     ensures causes { HasCauses (H.faults host.old) (H.faults host.new) result }
     ensures stops { Stops (H.wanted host.old) (H.wanted host.new) (H.history host.old) (H.history host.new) }
 {
-    let last = is_last(s.count, close);
-    let Request { caller, op } = request;
+    let last = is_last(s.count, message.close);
+    let served = Served::Asking(message);
     let owed = prepare(
         alloc,
         endpoint,
+        &s.routes,
         &mut s.engine,
         host,
-        Asked::Asking(caller, op),
+        &served,
         last,
     );
     s.count += 1;
@@ -135,8 +136,14 @@ fn serve_request<H: Host>(
 }
 
 // Refuses what the reader holds, which is no message.
-fn refuse<H: Host>(alloc: Global, endpoint: &str, host: &mut H, s: &mut Serving) -> Turn
-    requires bad { front s.old.reader.held ≡ Bad }
+fn refuse<H: Host>(
+    alloc: Global,
+    endpoint: &str,
+    host: &mut H,
+    s: &mut Serving,
+    refusal: Refusal,
+) -> Turn
+    requires bad { front s.old.reader.held ≡ Bad refusal }
     requires few { s.old.count < most }
     requires idle { IsIdle s.old.engine }
     requires working { IsWorking s.old.engine }
@@ -148,12 +155,14 @@ fn refuse<H: Host>(alloc: Global, endpoint: &str, host: &mut H, s: &mut Serving)
     ensures causes { HasCauses (H.faults host.old) (H.faults host.new) result }
     ensures stops { Stops (H.wanted host.old) (H.wanted host.new) (H.history host.old) (H.history host.new) }
 {
+    let served = Served::Unreadable(refusal);
     let owed = prepare(
         alloc,
         endpoint,
+        &s.routes,
         &mut s.engine,
         host,
-        Asked::Refusing(Refusal::BadMessage),
+        &served,
         true,
     );
     s.count += 1;
@@ -191,11 +200,9 @@ fn take_turn<H: Host>(
     ensures stops { Stops (H.wanted host.old) (H.wanted host.new) (H.history host.old) (H.history host.new) }
 {
     match s.reader.next() {
-        Ok(Read::Message { request, close }) => serve_request(
-            alloc, endpoint, host, s, request, close,
-        ),
-        Ok(Read::Bad) => refuse(alloc, endpoint, host, s),
-        Ok(Read::More) => take_more(host, s, room),
+        Ok(MessageRead::Message(message)) => serve_request(alloc, endpoint, host, s, message),
+        Ok(MessageRead::Bad(refusal)) => refuse(alloc, endpoint, host, s, refusal),
+        Ok(MessageRead::More) => take_more(host, s, room),
         Err(_) => Turn::Ended(Status::NoMemory),
     }
 }
@@ -226,9 +233,13 @@ pub fn serve_line<H: Host>(alloc: Global, endpoint: &str, engine: Engine, host: 
     let Ok(mut room) = new_room(alloc) else {
         return Status::NoMemory;
     };
+    let Ok(routes) = Routes::new(alloc) else {
+        return Status::NoMemory;
+    };
     let mut s = Serving {
         engine,
-        reader: Reader::new(alloc),
+        reader: MessageReader::new(alloc),
+        routes,
         count: 0,
     };
     loop {

@@ -5,21 +5,22 @@ ghost use Rattle.kms_host.specs.History.{WhereTold, Stops};
 ghost use Rattle.kms_host.specs.Line.{IsOpen};
 ghost use Rattle.kms_host.specs.Moment.{Since};
 ghost use Rattle.kms_http.specs.Reply.{printed};
-ghost use Rattle.kms_http.specs.Stream.{Served, is_last};
+ghost use Rattle.kms_http.specs.MessageStream.{is_last};
 ghost use Rattle.kms_core.specs.Steps.{Prepares as Leads, KeepsTheSame, Waits, IsIdle, IsWorking};
 ghost use Rattle.kms_json.specs.Answer.{reply_of};
 ghost use Rattle.kms_model.specs.Run.{asked_answer, asked_state, asked_stores, steps_if};
 ghost use Rattle.kms_serve.specs.Events.{LineEvent, most};
 ghost use Rattle.kms_serve.specs.Owed.{PreparesReply, Responds, is_fault};
-ghost use Rattle.kms_serve.specs.Replies.{request_of};
+ghost use Rattle.kms_serve.specs.Requests as spec;
 ghost use Rattle.kms_serve.specs.Turns.{CanServe};
 ghost use Rattle.kms_world.specs.State.{State};
 ghost use Rattle.kms_world.specs.Times.{HasTimes};
 
 use crate::owed::Owed;
+use crate::request::request_of;
 use kms_core::{Asked, Engine};
 use kms_host::Host;
-use kms_http::print;
+use kms_http::{Routes, Served, print};
 use kms_json::answer as reply_to;
 use kms_store::ReadyStep;
 use kms_world::{Answer, Bytes, NoMemory, Request};
@@ -74,24 +75,26 @@ fn take_over(engine: &mut Engine, step: Option<ReadyStep>)
     }
 }
 
-// Asks, prints and accepts. Where it is out of memory nothing has changed.
+// Reads what is asked, asks, prints and accepts. Where it is out of memory nothing has changed.
 fn respond<H: Host>(
     alloc: Global,
     endpoint: &str,
+    routes: &Routes,
     engine: &mut Engine,
     host: &mut H,
-    request: Request,
+    served: &Served,
     moment: u64,
     last: bool,
 ) -> Result<Bytes, NoMemory>
     requires moment { moment < 253402300800 }
     requires idle { IsIdle engine.old }
-    ensures reply { IfOk result (λ bytes. bytes ≡ printed (reply_of endpoint.now (asked_answer engine.old.state request moment)) moment last) }
-    ensures state { OnOk result (engine.new.state ≡ asked_state engine.old.state request moment) }
-    ensures waits { OnOk result (Waits engine.old engine.new (steps_if (asked_stores engine.old.state request moment))) }
+    ensures reply { IfOk result (λ bytes. bytes ≡ printed (reply_of endpoint.now (asked_answer engine.old.state (spec.request_of served.now) moment)) moment last) }
+    ensures state { OnOk result (engine.new.state ≡ asked_state engine.old.state (spec.request_of served.now) moment) }
+    ensures waits { OnOk result (Waits engine.old engine.new (steps_if (asked_stores engine.old.state (spec.request_of served.now) moment))) }
     ensures err { OnErr result ((engine.new.state ≡ engine.old.state) × KeepsTheSame engine.old.store engine.new.store) }
     ensures host { host.new ≡ host.old }
 {
+    let request = request_of(alloc, routes, served)?;
     let Asked { answer, step } = asked(engine, host, request, moment)?;
     let reply = reply_to(alloc, &answer, endpoint)?;
     let bytes = print(alloc, &reply, moment, last)?;
@@ -103,43 +106,45 @@ fn respond<H: Host>(
 fn reply<H: Host>(
     alloc: Global,
     endpoint: &str,
+    routes: &Routes,
     engine: &mut Engine,
     host: &mut H,
-    request: Request,
+    served: &Served,
     moment: u64,
     last: bool,
 ) -> Owed
     requires moment { moment < 253402300800 }
     requires idle { IsIdle engine.old }
-    ensures responds { (e : LineEvent) → request ≡ request_of e.served → e.time ≡ moment → e.last ≡ last
+    ensures responds { (e : LineEvent) → e.served ≡ served.now → e.time ≡ moment → e.last ≡ last
         → Responds endpoint.now engine.old engine.new e result }
     ensures waits { (steps : ℕ) × Waits engine.old engine.new steps }
     ensures no_fault { is_fault result ≡ false }
     ensures host { host.new ≡ host.old }
 {
-    match respond(alloc, endpoint, engine, host, request, moment, last) {
+    match respond(alloc, endpoint, routes, engine, host, served, moment, last) {
         Ok(reply) => Owed::Reply(reply),
         Err(_) => Owed::OutOfMemory,
     }
 }
 
-/// Prepares the reply to what was read as a message: its time is told, it is asked, printed, accepted and settled. It
+/// Prepares the reply to what is served: its time is told, it is asked, printed, accepted and settled. It
 /// changes nothing where that is out of memory. The fault of the store is owed in the place of the reply where a call of
 /// the store failed.
 pub fn prepare<H: Host>(
     alloc: Global,
     endpoint: &str,
+    routes: &Routes,
     engine: &mut Engine,
     host: &mut H,
-    request: Request,
+    served: &Served,
     last: bool,
 ) -> Owed
     requires idle { IsIdle engine.old }
     requires working { IsWorking engine.old }
     requires ready { WhereTold (H.history host.old) (CanServe engine.old) }
-    ensures prepared { (served : Served) (n : ℕ) → request ≡ request_of served → last ≡ is_last most n served
+    ensures prepared { (n : ℕ) → last ≡ is_last most n served.now
         → Since (H.history host.old) (H.history host.new) (λ was calls.
-        PreparesReply endpoint.now engine.old engine.new served n result was calls) }
+        PreparesReply endpoint.now engine.old engine.new served.now n result was calls) }
     ensures open { WhereTold (H.history host.new) (IsOpen 0) }
     ensures ready { is_fault result ≡ false → WhereTold (H.history host.new) (CanServe engine.new) }
     ensures idle { is_fault result ≡ false → IsIdle engine.new }
@@ -150,7 +155,7 @@ pub fn prepare<H: Host>(
 {
     let told = host.now();
     let moment = capped(told);
-    let owed = reply(alloc, endpoint, engine, host, request, moment, last);
+    let owed = reply(alloc, endpoint, routes, engine, host, served, moment, last);
     match engine.settle(host) {
         Ok(()) => owed,
         Err(_) => Owed::StoreFault,

@@ -1,6 +1,6 @@
 use Rattle.std.proofs.Common.{sym, ap, ◌∙◌, arith}
 use Rattle.std.proofs.lemmas.List.{take_all}
-use Rattle.kms_http.specs.Forms.{head_len}
+use Rattle.kms_http.specs.HeadEnd.{head_len}
 use Rattle.kms_http.specs.HeadEnd.{head_limit}
 use Rattle.kms_http.proofs.MessageFrontLaws.{front-without, front-over}
 use Rattle.kms_http.proofs.message_front.headless.Goals as goal

@@ -1,5 +1,5 @@
 use Rattle.std.proofs.Common.{◌≡◌, length}
-use Rattle.kms_http.specs.Forms as spec
+use Rattle.kms_http.specs.HeadEnd as spec
 use Rattle.kms_http.proofs.past.past.Given as goal
 
 abbrev pub invariant-loop-wanted : goal.invariant-loop-wanted

@@ -1,5 +1,5 @@
 use Rattle.std.proofs.Common.{◌∙◌, ◌++◌, ap, codes}
-use Rattle.kms_http.specs.Spelled.{field}
+use Rattle.kms_http.specs.Lines.{field}
 use Rattle.kms_http.proofs.reply.put_media.Goals as goal
 
 pub returns-in_ok-put_field : goal.returns-in_ok-put_field

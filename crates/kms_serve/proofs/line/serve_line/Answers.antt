@@ -12,13 +12,13 @@ use Rattle.kms_serve.proofs.line.serve_line.Goals as goal
 
 pub loop-status-init : goal.loop-status-init
 loop-status-init g c =
-    let s : Serving = record { engine = c.args.engine; reader = c.new.result; count = 0 } in
+    let s : Serving = record { engine = c.args.engine; reader = c.new-2.result; routes = tt; count = 0 } in
     record {
-      good = λ store start good. rw c.new.ensures good;
+      good = λ store start good. rw c.new-2.ensures good;
       idle = c.requires.idle;
       working = c.requires.working;
       ready = c.requires.ready;
-      bounded = bounded_first s c.new.ensures refl;
+      bounded = bounded_first s c.new-2.ensures refl;
       room = c.in-Ok.ensures;
       stops = stops_same _ _;
       later = never_falls_same _;
@@ -26,6 +26,11 @@ loop-status-init g c =
 
 pub returns-in_default-clause-ended : goal.returns-in_default-clause-ended
 returns-in_default-clause-ended g c store start good =
+    since_weaker (λ was calls. FromStore store was (λ b. EndedAt c.args.endpoint.now b status.NoMemory calls)) good
+    (λ was calls h keys first steps stands. ended_out_of_memory c.args.endpoint.now (run_start store was keys first steps) (serving_of c.args.engine) calls (h keys first steps stands))
+
+pub returns-in_default-new-clause-ended : goal.returns-in_default-new-clause-ended
+returns-in_default-new-clause-ended g c store start good =
     since_weaker (λ was calls. FromStore store was (λ b. EndedAt c.args.endpoint.now b status.NoMemory calls)) good
     (λ was calls h keys first steps stands. ended_out_of_memory c.args.endpoint.now (run_start store was keys first steps) (serving_of c.args.engine) calls (h keys first steps stands))
 
@@ -42,3 +47,6 @@ loop-status-preserved g c = record {
   stops = stops_then c.loop-status.invariant.stops c.in-Went.ensures.stops;
   later = never_falls_then c.loop-status.invariant.later c.in-Went.ensures.causes.later;
 }
+
+pub returns-in-Ended-clause-stops : goal.returns-in-Ended-clause-stops
+returns-in-Ended-clause-stops g c = stops_then c.loop-status.invariant.stops c.in-Ended.ensures.stops

@@ -20,4 +20,4 @@ invariant-loop-status g l = record {
 
 -- each turn answers a message or takes a byte, and a line has no more of both than these
 abbrev pub decreases-loop-status : goal.decreases-loop-status
-decreases-loop-status g l = 7790066314 - (l.s.count + fed l.s)
+decreases-loop-status g l = 819210147456 - (l.s.count + fed l.s)

@@ -38,7 +38,7 @@ returns-else-is_empty-clause-good g c endpoint store start good =
 pub returns-in-Ok-feed-clause-good : goal.returns-in-Ok-feed-clause-good
 returns-in-Ok-feed-clause-good g c endpoint store start good =
     let size : length c.take.new.room ≡ 65536 = omega (arith, c.take.auto.room, c.requires.room) in
-    let after : Serving = record { engine = c.args.s.now.engine; reader = c.feed.new.self; count = c.args.s.now.count } in
+    let after : Serving = record { engine = c.args.s.now.engine; reader = c.feed.new.self; routes = c.args.s.now.routes; count = c.args.s.now.count } in
     since_add (λ was calls. FromStore store was (λ b. GoodAt endpoint b after calls)) good c.in-Ok.ensures.told
     (λ was x h keys first steps stands. good_took endpoint _ c.args.s.now after _ _ x size refl refl c.in-Ok-feed.ensures.ok c.requires.part (filled_take c.in-Ok.count c.take.new.room (omega (arith, c.if-count-eq0.false)) c.in-Ok.ensures.bound) (h keys first steps stands))
 

@@ -18,12 +18,12 @@ settle-requires-clause-placed g c =
     rw c.reply-owed.ensures.host (placed c.args.engine.now c.reply-owed.new.engine c.now-told.result c.requires.ready c.now-told.ensures.told c.reply-owed.ensures.waits)
 
 pub returns-in-Ok-clause-prepared : goal.returns-in-Ok-clause-prepared
-returns-in-Ok-clause-prepared g c = λ served n is last.
-    let e = event n c.now-told.result served in
-    let r = c.reply-owed.ensures.responds e is (sym c.capped-moment.ensures) (sym last) in
+returns-in-Ok-clause-prepared g c = λ n last.
+    let e = event n c.now-told.result c.args.served.now in
+    let r = c.reply-owed.ensures.responds e refl (sym c.capped-moment.ensures) (sym last) in
     let here = rw c.reply-owed.ensures.host at c.in-Ok.ensures.told in
     let fails = rw c.reply-owed.ensures.host at c.in-Ok.ensures.failed in
-    prepared c.args.endpoint.now c.args.engine.now c.reply-owed.new.engine c.settle.new.self served n c.now-told.result c.reply-owed.result c.reply-owed.result false r c.in-Ok.ensures.same c.reply-owed.ensures.no_fault
+    prepared c.args.endpoint.now c.args.engine.now c.reply-owed.new.engine c.settle.new.self c.args.served.now n c.now-told.result c.reply-owed.result c.reply-owed.result false r c.in-Ok.ensures.same c.reply-owed.ensures.no_fault
     (λ well. refl) (λ bad. absurd (false≢true bad))
     (settling c.args.engine.now c.reply-owed.new.engine c.settle.new.self c.now-told.result (steps_at c.args.engine.now e r.mark) _ c.requires.ready c.now-told.ensures.told r.waits here fails c.in-Ok.ensures.same c.in-Ok.ensures.ok (uncalled g.H.Host.history _ _ _ c.in-Ok.ensures.idle c.reply-owed.ensures.host))
 
@@ -46,12 +46,12 @@ returns-in-Ok-clause-ready g c = λ well.
     (λ was now k. ready_settling c.args.engine.now c.settle.new.self c.now-told.result w.0 was now k)
 
 pub returns-in-Err-clause-prepared : goal.returns-in-Err-clause-prepared
-returns-in-Err-clause-prepared g c = λ served n is last.
-    let e = event n c.now-told.result served in
-    let r = c.reply-owed.ensures.responds e is (sym c.capped-moment.ensures) (sym last) in
+returns-in-Err-clause-prepared g c = λ n last.
+    let e = event n c.now-told.result c.args.served.now in
+    let r = c.reply-owed.ensures.responds e refl (sym c.capped-moment.ensures) (sym last) in
     let here = rw c.reply-owed.ensures.host at c.in-Err.ensures.told in
     let fails = rw c.reply-owed.ensures.host at c.in-Err.ensures.failed in
-    prepared c.args.endpoint.now c.args.engine.now c.reply-owed.new.engine c.settle.new.self served n c.now-told.result c.reply-owed.result _ true r c.in-Err.ensures.same refl
+    prepared c.args.endpoint.now c.args.engine.now c.reply-owed.new.engine c.settle.new.self c.args.served.now n c.now-told.result c.reply-owed.result _ true r c.in-Err.ensures.same refl
     (λ well. absurd (false≢true (sym well))) (λ bad. refl)
     (settling c.args.engine.now c.reply-owed.new.engine c.settle.new.self c.now-told.result (steps_at c.args.engine.now e r.mark) _ c.requires.ready c.now-told.ensures.told r.waits here fails c.in-Err.ensures.same tt (uncalled g.H.Host.history _ _ _ c.in-Err.ensures.idle c.reply-owed.ensures.host))
 

@@ -1,5 +1,5 @@
 use Rattle.std.proofs.Common.{◌≡◌, None, ap, sym, ◌∙◌, length, drop, length-drop, arith}
-use Rattle.kms_http.specs.Forms.{head_len}
+use Rattle.kms_http.specs.HeadEnd.{head_len}
 use Rattle.kms_http.specs.Reading.{Reading}
 use Rattle.kms_http.proofs.QuietLaws.{none-quiet}
 use Rattle.kms_http.proofs.message_reader.MessageReader.next.Goals as goal

@@ -1,6 +1,6 @@
 use Rattle.std.proofs.Common.{◌≡◌, ◌+◌, length, option_map}
-use Rattle.kms_http.specs.Forms as spec
-use Rattle.kms_http.proofs.head.head_len.Given as goal
+use Rattle.kms_http.specs.HeadEnd as spec
+use Rattle.kms_http.proofs.head_end.head_len.Given as goal
 
 abbrev pub invariant-loop-rest : goal.invariant-loop-rest
 invariant-loop-rest l = record {

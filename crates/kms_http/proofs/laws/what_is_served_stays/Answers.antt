@@ -1,5 +1,0 @@
-use Rattle.kms_http.proofs.StreamLaws.{served_at-more}
-use Rattle.kms_http.proofs.laws.what_is_served_stays.Goals as goal
-
-pub returns : goal.returns
-returns c = λ most n what e. served_at-more most n c.args.bytes.now c.args.more.now what e
