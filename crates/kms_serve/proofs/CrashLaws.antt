@@ -8,6 +8,7 @@ use Rattle.kms_host.specs.Moment.{then_calls}
 use Rattle.kms_host.specs.Store.{is_attached, syncs}
 use Rattle.kms_host.specs.declared.call.Call.{Call}
 use Rattle.kms_host.specs.declared.call.Call.TheVariants.{Text, Listened, Came, Attached, Took, Gave, Shut, OnFile, Told, Drew}
+use Rattle.kms_host.proofs.DiskLaws.{is_image}
 use Rattle.kms_host.proofs.Moments.{then_calls-append}
 use Rattle.kms_journal.specs.Device.{IsQuietStore}
 use Rattle.kms_journal.specs.Standing.{standing_of}
@@ -121,6 +122,7 @@ settled_same engine n was now same s =
           keeps = o.keeps;
           counted = o.counted;
           leads = o.leads;
+          total = o.total;
         };
         now = k.now;
       };
@@ -135,6 +137,13 @@ settled_stands engine n h s =
 pub stands_by : {keys : List WrappedKey} (two others : List ℕ × List ℕ) (state : State) (n : ℕ) → standing_of two ≡ standing_of others → Stands keys others state n → Stands keys two state n
 stands_by two others state n same s =
     record { standing = s.standing; current = same ∙ s.current; keeps = s.keeps; counted = s.counted }
+
+-- the files as they read are a crash image, where nothing is pending
+pub files_image : (h : History) → IsQuietStore h → IsImage h (files h)
+files_image h quiet = record {
+  file_0 = subst (λ (d : Disk). MayLeave d (reads 0 h)) (sym (quiet 0 (omega arith))) (is_image (reads 0 h));
+  file_1 = subst (λ (d : Disk). MayLeave d (reads 1 h)) (sym (quiet 1 (omega arith))) (is_image (reads 1 h));
+}
 
 pub quiet_image : (h : History) (image : List ℕ × List ℕ) → IsQuietStore h → IsImage h image → standing_of image ≡ standing_of (files h)
 quiet_image h image quiet is = (untouched_keeps h h (untouched h)).images quiet image is

@@ -11,6 +11,7 @@ pub mod OpeningLaws
 pub mod OwingLaws
 pub mod PrepareLaws
 pub mod Refused
+pub mod RenewalLaws
 pub mod ReplyLaws
 pub mod ServeLaws
 pub mod SinceLaws

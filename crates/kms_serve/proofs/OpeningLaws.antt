@@ -9,10 +9,13 @@ use Rattle.kms_host.specs.declared.call.Call.{Call}
 use Rattle.kms_host.specs.declared.call.Call.TheVariants.{Text, Listened, Came, Attached, Took, Gave, Shut, OnFile, Told, Drew}
 use Rattle.kms_host.specs.declared.call.FileCall.{FileCall}
 use Rattle.kms_host.specs.declared.call.NameFault.{NameFault}
-use Rattle.kms_host.proofs.Moments.{at_more, at_map, since_told, then_calls-append, then_calls-calls, tells_then, tells_with, known_after_told}
+use Rattle.kms_host.proofs.Moments.{at_now, at_more, at_map, since_told, then_calls-append, then_calls-calls, tells_then, tells_with, known_after_told}
 use Rattle.kms_journal.specs.Device.{IsQuietStore}
 use Rattle.kms_journal.specs.Fault.{Fails}
+use Rattle.kms_journal.specs.Position.{Position}
 use Rattle.kms_journal.specs.Recovery.{KeepsStanding}
+use Rattle.kms_journal.specs.Standing.{Standing, standing_of}
+use Rattle.kms_journal.proofs.OpeningLaws.{some_is}
 use Rattle.kms_world.specs.State.{State}
 use Rattle.kms_record.specs.declared.key.WrappedKey.{WrappedKey}
 use Rattle.kms_core.specs.Stands.{Stands}
@@ -28,15 +31,17 @@ use Rattle.kms_serve.specs.RunStart.{RunStart, run_start, FromStore, history}
 use Rattle.kms_serve.specs.Events.{events}
 use Rattle.kms_serve.specs.Opening.{IsRefused, IsAsBefore, AreOpeningCalls, IsUnopened, IsOpenedBy, OpensStore, refusal_of}
 use Rattle.kms_serve.specs.Owing.{GoodAt, EndedAt}
+use Rattle.kms_serve.specs.Renewals.{is_asked}
 use Rattle.kms_serve.specs.Replies.{replies, before_newest, due}
 use Rattle.kms_serve.specs.StoreCalls.{store_failed, IsUnfailedBefore, OnlyFiles, IfAttached}
 use Rattle.kms_serve.specs.Turns.{CanServe, serving_of}
 use Rattle.kms_serve.specs.declared.status.Status.{Status}
 use Rattle.kms_serve.specs.declared.status.Status.TheVariants as status
-use Rattle.kms_serve.proofs.CrashLaws.{quiet_image, stands_as, stands_by}
+use Rattle.kms_serve.proofs.CrashLaws.{files_image, quiet_image, stands_as, stands_by}
 use Rattle.kms_serve.proofs.EventLaws.{after-first}
 use Rattle.kms_serve.proofs.GiveLaws.{on_line-nil}
 use Rattle.kms_host.proofs.ToldLaws.{tells_both}
+use Rattle.kms_serve.proofs.RenewalLaws.{renewals-unasked}
 use Rattle.kms_serve.proofs.StoreCallLaws.{same_by_files, store_failed-append, only_files, failed_since, failed_once, unfailed_before, before_more}
 
 abbrev pub failure : StartFault → Result Held StartFault
@@ -184,9 +189,9 @@ module _ (endpoint : List ℕ) (b : RunStart) (stands : Stands b.keys (files b.w
   no_events : (on_files : List Call) (done : Result (Unit {0}) NameFault) → OnlyFiles on_files → events (on_files ++ Attached b.store done ∷ []) ≡ []
   no_events on_files done only = same_by_files events (λ file c calls. refl) on_files (Attached b.store done ∷ []) only
 
-  pub answered_as_before : (calls : List Call) → events calls ≡ [] → times calls ≡ [] → ((line : ℕ) → sent line calls ≡ []) → InTurn endpoint b [] calls → IsStill calls
+  pub answered_as_before : (calls : List Call) → events calls ≡ [] → times calls ≡ [] → is_asked calls ≡ false → ((line : ℕ) → sent line calls ≡ []) → InTurn endpoint b [] calls → IsStill calls
       → IsAsBefore b.was (history b calls) → Answered endpoint b [] calls
-  answered_as_before calls none untold unsent in_turn still before = record {
+  answered_as_before calls none untold unasked unsent in_turn still before = record {
     within = omega (arith, ap length none);
     timed = omega (arith, ap length none, ap length untold);
     printed = λ line. (due line endpoint b.first (events calls) [] (store_failed calls), ap (λ z. z ++ due line endpoint b.first (events calls) [] (store_failed calls)) (sym (unsent line)));
@@ -200,15 +205,21 @@ module _ (endpoint : List ℕ) (b : RunStart) (stands : Stands b.keys (files b.w
         acknowledged = λ line k begun. absurd (omega (arith, begun, ap length (unsent line)));
       };
     };
-    unasked = λ unasked. before;
+    unasked = λ none. before;
     few_syncs = rw none (omega (arith, before.syncs));
+    renewed = record {
+      images = λ quiet image is s t first now.
+          let same : t ≡ s = some_is t s (sym now ∙ before.images quiet image is ∙ first) in
+          let generation : t.generation ≡ s.generation = ap (λ (x : Standing). x.generation) same in
+          (omega (arith, generation, renewals-unasked calls unasked), omega (arith, generation, renewals-unasked calls unasked));
+    };
   }
 
   pub opening_each : (on_files : List Call) (done : Result (Unit {0}) NameFault) → OnlyFiles on_files → IfAttached done on_files → IsUnfailedBefore (on_files ++ Attached b.store done ∷ [])
       → AtEach (λ x. IsAsBefore b.was (then_calls b.was x)) (on_files ++ Attached b.store done ∷ []) → AtEach (Answered endpoint b []) (on_files ++ Attached b.store done ∷ [])
   opening_each [] done only attached unfailed each = (
-    answered_as_before (Attached b.store done ∷ []) refl refl (λ line. refl) (record { of_words = refl; at_first = refl }) tt each.0,
-    answered_as_before [] refl refl (λ line. refl) tt tt each.1,
+    answered_as_before (Attached b.store done ∷ []) refl refl refl (λ line. refl) (record { of_words = refl; at_first = refl }) tt each.0,
+    answered_as_before [] refl refl refl (λ line. refl) tt tt each.1,
   )
   opening_each (Text name room bytes ∷ on_files) done only attached unfailed each = absurd only
   opening_each (Listened address heard ∷ on_files) done only attached unfailed each = absurd only
@@ -220,7 +231,8 @@ module _ (endpoint : List ℕ) (b : RunStart) (stands : Stands b.keys (files b.w
   opening_each (OnFile file c ∷ on_files) (Err fault) only attached unfailed each = absurd (cc)
   opening_each (OnFile file c ∷ on_files) (Ok done) only attached unfailed each = (
     answered_as_before (OnFile file c ∷ (on_files ++ Attached b.store (Ok done) ∷ [])) (no_events on_files (Ok done) only)
-        (same_by_files times (λ f d calls. refl) on_files (Attached b.store (Ok done) ∷ []) only) (λ line. nothing line on_files (Ok done) only)
+        (same_by_files times (λ f d calls. refl) on_files (Attached b.store (Ok done) ∷ []) only)
+        (same_by_files is_asked (λ f d calls. refl) on_files (Attached b.store (Ok done) ∷ []) only) (λ line. nothing line on_files (Ok done) only)
         (record {
           given = λ line. nothing line on_files (Ok done) only ∙ sym (ap (λ es. replies line endpoint b.first (before_newest es) []) (no_events on_files (Ok done) only));
           needed = inl (same_by_files apart_from_files (λ f d calls. refl) on_files (Attached b.store (Ok done) ∷ []) only);
@@ -260,6 +272,13 @@ good_opened endpoint store engine was calls o keys first steps stands =
       state = rw none one.0;
       settled = rw none (subst (λ (k : List WrappedKey). IsSettled k engine (steps + 0) (then_calls was calls)) one.2 (subst (λ (n : ℕ). IsSettled s.0 engine n (then_calls was calls)) (one.1 ∙ plus_none steps) s.3));
       quiet = s.4;
+      above = λ quiet t first.
+          let placed = s.3.opened.opened.placed in
+          let now : standing_of (files (then_calls was calls)) ≡ standing_of (files was) =
+          (at_now (λ x. IsAsBefore was (then_calls was x)) calls o.opening.each).images quiet (files (then_calls was calls)) (files_image (then_calls was calls) (s.4 quiet)) in
+          let same : s.3.opened.opened.standing ≡ t = some_is s.3.opened.opened.standing t (sym placed.current ∙ now ∙ first) in
+          let unasked = renewals-unasked calls (same_opening is_asked store was calls (λ file c x. refl) o.opening) in
+          omega (arith, ap (λ (p : Position). p.generation) placed.here, ap (λ (x : Standing). x.generation) same, unasked);
       held = rw bytes (after-first [] refl);
       place = rw bytes refl;
       owes = λ line. rw (none, unsent line) (sym (on_line-nil line));

@@ -35,7 +35,8 @@ use Rattle.kms_serve.specs.Answered.{Answered, InTurn, MayTake, MayGive, MayShut
 use Rattle.kms_serve.specs.Ends.{AllGiven, AllKept, EndsUnreadable}
 use Rattle.kms_serve.specs.Owed.{PreparesReply, Settled, OnlyLeft, Gives, GivesFault, owed_bytes, is_fault, steps_at}
 use Rattle.kms_serve.specs.Opening.{IsAsBefore}
-use Rattle.kms_serve.specs.Owing.{on_line, OwingAt, GoodAt, EndedAt}
+use Rattle.kms_serve.specs.Owing.{on_line, IsAbove, OwingAt, GoodAt, EndedAt}
+use Rattle.kms_serve.specs.Renewals.{renewals, AllRenewed}
 use Rattle.kms_serve.specs.StoreCalls.{store_failed, IsUnfailedBefore, OnlyFiles}
 use Rattle.kms_serve.specs.declared.owed.Owed.{Owed}
 use Rattle.kms_serve.specs.declared.serving.Serving.{Serving}
@@ -43,6 +44,7 @@ use Rattle.kms_serve.specs.declared.status.Status.TheVariants as status
 use Rattle.kms_serve.proofs.CrashLaws.{Same, same_then, as_before_same, AllKeep, safe, safe-marks, keep_on, settled_keep, settled_stands, settled_same, quiet_same, quiet_image, stands_as, stands_by, holds_settling, keeps_faulted, same_gives, same_took, same_shut, same_told}
 use Rattle.kms_serve.proofs.EventLaws.{events-gives, events-told, served_at-next, after-bad}
 use Rattle.kms_serve.proofs.GiveLaws.{only_gives, left_rest, sent_on, on_line-append, on_line-nil, fails-append}
+use Rattle.kms_serve.proofs.RenewalLaws.{renewals-gives, renewed_on, above_on, all_renewed, cuts_then, renewals_then, renewed_settling, above_settled}
 use Rattle.kms_serve.proofs.ReplyLaws.{state_by-more, steps_by-more, steps_by-marks, replies-more, replies-marks, due-marks, before_newest-more, fault_on-more, length-before_newest, on_event}
 use Rattle.kms_serve.proofs.StoreCallLaws.{same_by_files, store_failed-append, store_failed-gives, both_unfailed, unfailed_before}
 use Rattle.kms_http.proofs.MessageStreamLaws.{after-more}
@@ -104,6 +106,7 @@ answered_marks endpoint b marks more calls a = record {
   safe = safe-marks endpoint b marks more calls a.within a.safe;
   unasked = a.unasked;
   few_syncs = omega (arith, a.few_syncs, steps_by-marks b.first (events calls) marks more a.within);
+  renewed = a.renewed;
 }
 
 -- where nothing is owed, all replies were given
@@ -171,7 +174,7 @@ module _ (endpoint : List ℕ) (b : RunStart) (s : Serving) (then : Held) (stand
       omega (arith, here, steps_by-more b.first es o.marks e mark o.marked)
 
   abbrev pub Moment : History → Type 0
-  Moment h = IsSettledOrAll b.keys s.engine.state (b.steps + steps_by b.first es o.marks) then.state (steps_at s.engine e mark) mid h
+  Moment h = IsSettledOrAll b.keys s.engine.state (b.steps + steps_by b.first es o.marks) then.state (steps_at s.engine e mark) s.engine.store.journal.generation mid h
 
   two_states : (on_files : List Call) → Moment (then_calls mid on_files) → IsQuietStore b.was → (image : List ℕ × List ℕ) → IsImage (history b (on_files ++ Told time ∷ x)) image
       → Stands b.keys image (state_by b.first es o.marks) (b.steps + steps_by b.first es o.marks) ⊎ Stands b.keys image (state_by b.first (es ++ e ∷ []) marks) (b.steps + steps_by b.first (es ++ e ∷ []) marks)
@@ -185,17 +188,19 @@ module _ (endpoint : List ℕ) (b : RunStart) (s : Serving) (then : Held) (stand
   steps_before : steps_by b.first es marks ≡ steps_by b.first es o.marks
   steps_before = steps_by-marks b.first es o.marks (mark ∷ []) fewer
 
-  few_settling : (on_files : List Call) → (IsSome on_files → 0 < steps_at s.engine e mark) → Moment (then_calls mid on_files)
-      → syncs (history b (on_files ++ Told time ∷ x)).calls ≤ syncs b.was.calls + 2 + 2 * steps_by b.first (es ++ e ∷ []) marks
-  few_settling [] need settling =
+  few_settling : (on_files : List Call) → OnlyFiles on_files → (IsSome on_files → 0 < steps_at s.engine e mark) → Moment (then_calls mid on_files)
+      → syncs (history b (on_files ++ Told time ∷ x)).calls ≤ syncs b.was.calls + 2 + 2 * steps_by b.first (es ++ e ∷ []) marks + 3 * renewals (on_files ++ Told time ∷ x)
+  few_settling [] only need settling =
       let a = at_now (Answered endpoint b o.marks) x o.each in
-      let before : syncs (history b (Told time ∷ x)).calls ≤ syncs b.was.calls + 2 + 2 * steps_by b.first es o.marks = a.few_syncs in
+      let before : syncs (history b (Told time ∷ x)).calls ≤ syncs b.was.calls + 2 + 2 * steps_by b.first es o.marks + 3 * renewals x = a.few_syncs in
       omega (arith, before, steps_then)
-  few_settling (c ∷ on_files) need settling =
+  few_settling (c ∷ on_files) only need settling =
       let a = at_now (Answered endpoint b o.marks) x o.each in
       let there : syncs (history b (c ∷ (on_files ++ Told time ∷ x))).calls ≡ syncs (then_calls mid (c ∷ on_files)).calls = ap (λ (h : History). syncs h.calls) (then_calls-append b.was (c ∷ on_files) (Told time ∷ x)) in
-      let before : syncs mid.calls ≤ syncs b.was.calls + 2 + 2 * steps_by b.first es o.marks = a.few_syncs in
-      omega (arith, there, settling.syncs, before, steps_then, need tt)
+      let before : syncs mid.calls ≤ syncs b.was.calls + 2 + 2 * steps_by b.first es o.marks + 3 * renewals x = a.few_syncs in
+      let cut = cuts_then b s.engine time x (c ∷ on_files) only o.above in
+      let renewed = renewals_then b s.engine time x (c ∷ on_files) only o.above in
+      omega (arith, there, settling.paid, before, steps_then, need tt, cut, renewed)
 
   same_events : (on_files : List Call) → OnlyFiles on_files → events (on_files ++ Told time ∷ x) ≡ es ++ e ∷ []
   same_events on_files only = same_by_files events (λ file c calls. refl) on_files (Told time ∷ x) only ∙ one
@@ -235,7 +240,8 @@ module _ (endpoint : List ℕ) (b : RunStart) (s : Serving) (then : Held) (stand
               holds_settling endpoint b es o.marks e mark calls image (same_events on_files only) o.marked (λ line. same_sent line on_files only ∙ given line) (two_states on_files settling quiet image is);
         };
         unasked = λ none. absurd (omega (arith, long on_files only, ap length none));
-        few_syncs = rw (same_events on_files only) (few_settling on_files need settling);
+        few_syncs = rw (same_events on_files only) (few_settling on_files only need settling);
+        renewed = renewed_settling b s.engine time x on_files only o.above (λ quiet. quiet_same (history b x) mid (same_told (history b x) time) (o.quiet quiet)) settling.raised;
       }
 
   between : (on_files : List Call) → OnlyFiles on_files → store_failed on_files ≡ false → 0 < steps_at s.engine e mark → MayCallFile endpoint b marks (on_files ++ Told time ∷ x)
@@ -290,6 +296,7 @@ module _ (endpoint : List ℕ) (b : RunStart) (s : Serving) (then : Held) (stand
         state = ap (λ (h : Held). h.state) engine ∙ state_then ∙ ap (λ (l : List LineEvent). state_by b.first l marks) (sym events_are);
         settled = rw (events_are, ← steps_then, ← then_is, engine) (settled.done refl);
         quiet = λ quiet. subst IsQuietStore then_is (settled.quiet refl (quiet_same (history b x) mid (same_told (history b x) time) (o.quiet quiet)));
+        above = rw engine (above_settled b s.engine time x on_files only o.above then (settled.raised refl));
         held = rw bytes held;
         place = rw bytes (place ∙ o.place);
         owes = λ line.
@@ -384,7 +391,8 @@ given_here endpoint b marks owed l piece went gives calls a owes keep sound only
       safe = safe endpoint b marks (Gave l piece went ∷ (gives ++ calls)) (keep_on b marks calls (Gave l piece went ∷ (gives ++ calls)) same fails (same_gives 0 b (Gave l piece went ∷ gives) calls gave) keep);
       unasked = λ none.
           as_before_same b.was (history b calls) (history b (Gave l piece went ∷ (gives ++ calls))) (same_gives 0 b (Gave l piece went ∷ gives) calls gave) (syncs_gives 0 b gives calls gave.1) (a.unasked (sym same ∙ none));
-      few_syncs = rw (syncs_gives 0 b gives calls gave.1, same) a.few_syncs;
+      few_syncs = rw (syncs_gives 0 b gives calls gave.1, same, renewals-gives 0 gives calls gave.1) a.few_syncs;
+      renewed = renewed_on b calls (Gave l piece went ∷ (gives ++ calls)) (renewals-gives 0 gives calls gave.1) (same_gives 0 b (Gave l piece went ∷ gives) calls gave) a.renewed;
     }
 
 given_each : (endpoint : List ℕ) (b : RunStart) (marks : List Mark) (owed : List ℕ) (gives calls : List Call)
@@ -453,6 +461,7 @@ owing_given E endpoint b s now owed x y o g =
       state = rw same o.state;
       settled = gives_settled b s.engine o.marks x y gave same o.settled;
       quiet = λ quiet. quiet_same (history b x) (history b (y ++ x)) (same_gives 0 b y x gave) (o.quiet quiet);
+      above = above_on b s.engine x (y ++ x) (renewals-gives 0 y x gave) o.above;
       held = rw bytes o.held;
       place = rw bytes o.place;
       owes = owes;
@@ -464,13 +473,14 @@ owing_given E endpoint b s now owed x y o g =
 
 -- what stands for the last state leaves it in each crash image
 kept_by : (b : RunStart) (marks : List Mark) (calls : List Call) → Stands b.keys (files (history b calls)) (state_by b.first (events calls) marks) (b.steps + steps_by b.first (events calls) marks)
-    → (IsQuietStore b.was → IsQuietStore (history b calls)) → store_failed calls ≡ false → AllKept b marks calls
-kept_by b marks calls stands quiet unfailed = record {
+    → (IsQuietStore b.was → IsQuietStore (history b calls)) → store_failed calls ≡ false → AllRenewed b calls → AllKept b marks calls
+kept_by b marks calls stands quiet unfailed renewed = record {
   stands = stands;
   quiet = quiet;
   images = λ was_quiet image is.
       stands_by image (files (history b calls)) (state_by b.first (events calls) marks) (b.steps + steps_by b.first (events calls) marks) (quiet_image (history b calls) image (quiet was_quiet) is) stands;
   unfailed = unfailed;
+  renewed = renewed;
 }
 
 -- a call failed while it was given
@@ -484,7 +494,8 @@ ended_giving endpoint b s now owed e x y o g =
     kept_by b o.marks (y ++ x)
     (stands_as _ s.engine.state (state_by b.first (events (y ++ x)) o.marks) n (b.steps + steps_by b.first (events (y ++ x)) o.marks) (rw same o.state) (rw same refl)
     (settled_stands s.engine n (history b (y ++ x)) (settled_same s.engine n (history b x) (history b (y ++ x)) (same_gives 0 b y x gave) o.settled)))
-    (λ quiet. quiet_same (history b x) (history b (y ++ x)) (same_gives 0 b y x gave) (o.quiet quiet)) (store_failed-gives 0 y x gave ∙ o.unfailed) in
+    (λ quiet. quiet_same (history b x) (history b (y ++ x)) (same_gives 0 b y x gave) (o.quiet quiet)) (store_failed-gives 0 y x gave ∙ o.unfailed)
+    (all_renewed b s.engine n (y ++ x) (above_on b s.engine x (y ++ x) (renewals-gives 0 y x gave) o.above) (settled_same s.engine n (history b x) (history b (y ++ x)) (same_gives 0 b y x gave) o.settled)) in
     record {
       marks = o.marks;
       each = owing_each endpoint b s now owed x y o g.only;
@@ -529,18 +540,20 @@ shut_each endpoint b marks calls once given over unfailed keep each =
     let unasked : events calls ≡ [] → IsAsBefore b.was (history b (Shut 0 ∷ calls)) =
     λ none. as_before_same b.was (history b calls) (history b (Shut 0 ∷ calls)) (same_shut (history b calls) 0) refl (a.unasked none) in
     let here = safe endpoint b marks (Shut 0 ∷ calls) (keep_on b marks calls (Shut 0 ∷ calls) refl refl (same_shut (history b calls) 0) keep) in
-    (record { within = a.within; timed = a.timed; printed = a.printed; in_turn = turn; still = tt; safe = here; unasked = unasked; few_syncs = a.few_syncs }, each)
+    let renewed = renewed_on b calls (Shut 0 ∷ calls) refl (same_shut (history b calls) 0) a.renewed in
+    (record { within = a.within; timed = a.timed; printed = a.printed; in_turn = turn; still = tt; safe = here; unasked = unasked; few_syncs = a.few_syncs; renewed = renewed }, each)
 
 -- what is kept when a line is shut, or bytes were taken
 kept_same : (b : RunStart) (marks : List Mark) (engine : Held) (was now : List Call) → Same (history b was) (history b now) → events now ≡ events was
     → engine.state ≡ state_by b.first (events was) marks → IsSettled b.keys engine (b.steps + steps_by b.first (events was) marks) (history b was)
-    → (IsQuietStore b.was → IsQuietStore (history b was)) → store_failed now ≡ false → AllKept b marks now
-kept_same b marks engine was now calls same state settled quiet unfailed =
+    → (IsQuietStore b.was → IsQuietStore (history b was)) → store_failed now ≡ false → renewals now ≡ renewals was → IsAbove b engine was → AllKept b marks now
+kept_same b marks engine was now calls same state settled quiet unfailed renewed above =
     let n = b.steps + steps_by b.first (events was) marks in
     kept_by b marks now
     (stands_as _ engine.state (state_by b.first (events now) marks) n (b.steps + steps_by b.first (events now) marks) (rw same state) (rw same refl)
     (settled_stands engine n (history b now) (settled_same engine n (history b was) (history b now) calls settled)))
     (λ was_quiet. quiet_same (history b was) (history b now) calls (quiet was_quiet)) unfailed
+    (all_renewed b engine n now (above_on b engine was now renewed above) (settled_same engine n (history b was) (history b now) calls settled))
 
 -- the last message of the line was answered
 pub ended_over : (endpoint : List ℕ) (b : RunStart) (s : Serving) (calls : List Call) → OwingAt endpoint b s Over [] calls → EndedAt endpoint b status.Done (Shut 0 ∷ calls)
@@ -552,7 +565,7 @@ ended_over endpoint b s calls o =
       marked = o.marked;
       end = (
         all_given endpoint b s Over calls o,
-        kept_same b o.marks s.engine calls (Shut 0 ∷ calls) (same_shut (history b calls) 0) refl o.state o.settled o.quiet o.unfailed,
+        kept_same b o.marks s.engine calls (Shut 0 ∷ calls) (same_shut (history b calls) 0) refl o.state o.settled o.quiet o.unfailed refl o.above,
         inr over,
         refl,
       );
@@ -657,7 +670,7 @@ ended_refused endpoint b s place calls r =
       marked = o.marked;
       end = (
         all_given endpoint b s Broken calls o,
-        kept_same b o.marks s.engine calls (Shut 0 ∷ calls) (same_shut (history b calls) 0) refl o.state o.settled o.quiet o.unfailed,
+        kept_same b o.marks s.engine calls (Shut 0 ∷ calls) (same_shut (history b calls) 0) refl o.state o.settled o.quiet o.unfailed refl o.above,
         record { before = u.before; rest = u.rest; last = u.last; held = u.held; refusal = u.refusal; bad = u.bad; at = u.at },
         refl,
       );
@@ -685,7 +698,8 @@ took_each endpoint b s n bytes calls size part g =
     let unasked : events calls ≡ [] → IsAsBefore b.was (history b (Took 0 n bytes ∷ calls)) =
     λ none. as_before_same b.was (history b calls) (history b (Took 0 n bytes ∷ calls)) (same_took (history b calls) 0 n bytes) refl (a.unasked none) in
     let here = safe endpoint b g.marks (Took 0 n bytes ∷ calls) (took_keep endpoint b s n bytes calls g) in
-    (record { within = a.within; timed = a.timed; printed = a.printed; in_turn = ready; still = g.sound; safe = here; unasked = unasked; few_syncs = a.few_syncs }, g.each)
+    let renewed = renewed_on b calls (Took 0 n bytes ∷ calls) refl (same_took (history b calls) 0 n bytes) a.renewed in
+    (record { within = a.within; timed = a.timed; printed = a.printed; in_turn = ready; still = g.sound; safe = here; unasked = unasked; few_syncs = a.few_syncs; renewed = renewed }, g.each)
 
 -- more bytes came
 pub good_took : (endpoint : List ℕ) (b : RunStart) (s t : Serving) (n : ℕ) (bytes : List ℕ) (calls : List Call) → n ≡ 65536
@@ -702,6 +716,7 @@ good_took endpoint b s t n bytes calls size engine count reader part filled g =
       state = rw engine g.state;
       settled = rw engine (settled_same s.engine (b.steps + steps_by b.first (events calls) g.marks) (history b calls) (history b (Took 0 n (Some bytes) ∷ calls)) (same_took (history b calls) 0 n (Some bytes)) g.settled);
       quiet = λ quiet. quiet_same (history b calls) (history b (Took 0 n (Some bytes) ∷ calls)) (same_took (history b calls) 0 n (Some bytes)) (g.quiet quiet);
+      above = rw engine g.above;
       held = rw (count, held) (after-more most s.count (taken 0 calls) bytes s.reader.held g.held);
       place = rw (held, passed) (omega (arith, length-append s.reader.held bytes, length-append (taken 0 calls) bytes, g.place));
       owes = g.owes;
@@ -751,7 +766,7 @@ ended_took_fault endpoint b s n size part calls g =
       marks = g.marks;
       each = took_each endpoint b s n None calls size part g;
       marked = g.marked;
-      end = (refl, kept_same b g.marks s.engine calls (Took 0 n None ∷ calls) (same_took (history b calls) 0 n None) refl g.state g.settled g.quiet g.unfailed, g.unfinished);
+      end = (refl, kept_same b g.marks s.engine calls (Took 0 n None ∷ calls) (same_took (history b calls) 0 n None) refl g.state g.settled g.quiet g.unfailed refl g.above, g.unfinished);
     }
 
 -- the line ended after a message, or inside one
@@ -765,7 +780,7 @@ kept_after : (endpoint : List ℕ) (b : RunStart) (s : Serving) (n : ℕ) (bytes
 kept_after endpoint b s n bytes calls g =
     kept_same b g.marks s.engine calls (Shut 0 ∷ Took 0 n bytes ∷ calls)
     (same_then (history b calls) (history b (Took 0 n bytes ∷ calls)) (history b (Shut 0 ∷ Took 0 n bytes ∷ calls)) (same_took (history b calls) 0 n bytes) (same_shut (history b (Took 0 n bytes ∷ calls)) 0))
-    refl g.state g.settled g.quiet g.unfailed
+    refl g.state g.settled g.quiet g.unfailed refl g.above
 
 pub ended_clean : (endpoint : List ℕ) (b : RunStart) (s : Serving) (n : ℕ) (bytes : List ℕ) (calls : List Call) → n ≡ 65536 → bytes ≡ [] → s.reader.held ≡ []
     → front s.reader.held ≡ Part → GoodAt endpoint b s calls → EndedAt endpoint b status.Done (Shut 0 ∷ Took 0 n (Some bytes) ∷ calls)

@@ -10,6 +10,7 @@ use Rattle.kms_host.specs.declared.call.Call.{Call}
 use Rattle.kms_host.specs.declared.call.Call.TheVariants.{Took, Told}
 use Rattle.kms_host.proofs.LineLaws.{open-gives}
 use Rattle.kms_host.proofs.Moments.{tells_then, tells_with, since_told, known_with_told, at_map, at_last, then_calls-append, then_calls-calls}
+use Rattle.kms_journal.specs.Cuts.{cuts}
 use Rattle.kms_journal.specs.Device.{IsQuietStore}
 use Rattle.kms_host.specs.Store.{others}
 use Rattle.kms_journal.specs.Fault.{Fails}
@@ -38,7 +39,7 @@ use Rattle.kms_serve.proofs.StoreCallLaws.{only_files, failed_since, failed_once
 -- what settling promises, as its contract says it
 abbrev pub SettleClause : {T E : Type 0} → (then after : Held) → Result T E → (was now : History) → Type 0
 SettleClause then after result was now = (keys : List WrappedKey) (settled : State) (steps : ℕ) → IsOpened keys then.store was settled steps then.state
-    → Settles keys after.store result settled steps then.state (count_of then.store) was now
+    → Settles keys then.store after.store result settled steps then.state was now
 
 -- the calls that settled
 pub record Calls (keys : List WrappedKey) (before after : Held) (steps more : ℕ) (failed : Bool) (mid now : History) : Type 0 where
@@ -67,6 +68,7 @@ module _ (keys : List WrappedKey) (before then after : Held) (steps more : ℕ) 
           keeps = o.keeps;
           counted = o.counted;
           leads = waits.leads (kept_as keys before.state) o.leads;
+          total = omega (arith, waits.total (steps + count_of before.store) o.total, waits.count);
         };
         now = waits.now keys k.now;
       }
@@ -74,13 +76,18 @@ module _ (keys : List WrappedKey) (before then after : Held) (steps more : ℕ) 
   many : count_of then.store ≡ more
   many = omega (arith, waits.count, s.idle.count)
 
-  abbrev Moment : (state : State) → (many : ℕ) → List Call → Type 0
-  Moment state many x = IsSettledOrAll keys before.state steps state many mid (then_calls mid x)
+  same_generation : then.store.journal.generation ≡ before.store.journal.generation
+  same_generation = ap (λ (p : Position). p.generation) waits.journal
 
-  moments : (on_files : List Call) → AtEach (Moment then.state (count_of then.store)) on_files → AtEach (Moment after.state more) on_files
+  abbrev Moment : (state : State) → (many generation : ℕ) → List Call → Type 0
+  Moment state many generation x = IsSettledOrAll keys before.state steps state many generation mid (then_calls mid x)
+
+  moments : (on_files : List Call) → AtEach (Moment then.state (count_of then.store) then.store.journal.generation) on_files → AtEach (Moment after.state more before.store.journal.generation) on_files
   moments on_files each =
-      at_map (Moment then.state (count_of then.store)) (Moment after.state more) on_files
-      (λ x h. subst (λ (k : ℕ). Moment after.state k x) many (subst (λ (q : State). Moment q (count_of then.store) x) (sym same) h))
+      at_map (Moment then.state (count_of then.store) then.store.journal.generation) (Moment after.state more before.store.journal.generation) on_files
+      (λ x h.
+      subst (λ (g : ℕ). Moment after.state more g x) same_generation
+      (subst (λ (k : ℕ). Moment after.state k then.store.journal.generation x) many (subst (λ (q : State). Moment q (count_of then.store) then.store.journal.generation x) (sym same) h)))
       each
 
   settled_now : IsIdle after → (on_files : List Call) → now ≡ then_calls mid on_files → IsOpened keys after.store now then.state (steps + count_of then.store) then.state
@@ -98,7 +105,7 @@ module _ (keys : List WrappedKey) (before then after : Held) (steps more : ℕ) 
   calls_of (Ok x) clause fails idle uncalled =
       let k = clause keys before.state steps opened in
       let t = k.throughout in
-      let only = only_files mid t.more (ap (λ (h : History). others h) (sym t.extends) ∙ (at_last (IsSettledOrAll keys before.state steps then.state (count_of then.store) mid) mid now t).others) in
+      let only = only_files mid t.more (ap (λ (h : History). others h) (sym t.extends) ∙ (at_last (IsSettledOrAll keys before.state steps then.state (count_of then.store) then.store.journal.generation mid) mid now t).others) in
       record {
         on_files = t.more;
         extends = t.extends;
@@ -109,13 +116,14 @@ module _ (keys : List WrappedKey) (before then after : Held) (steps more : ℕ) 
         settled = record {
           each = moments t.more t.each;
           done = λ well. settled_now idle t.more t.extends k.done;
+          raised = λ well. subst (λ (h : History). after.store.journal.generation + cuts mid.calls ≡ before.store.journal.generation + cuts h.calls) t.extends (k.raised ∙ ap (λ (n : ℕ). n + cuts now.calls) same_generation);
           quiet = λ well quiet. subst IsQuietStore t.extends (k.quiet quiet);
         };
       }
   calls_of (Err e) clause fails idle uncalled =
       let k = clause keys before.state steps opened in
       let t = k.throughout in
-      let only = only_files mid t.more (ap (λ (h : History). others h) (sym t.extends) ∙ (at_last (IsSettledOrAll keys before.state steps then.state (count_of then.store) mid) mid now t).others) in
+      let only = only_files mid t.more (ap (λ (h : History). others h) (sym t.extends) ∙ (at_last (IsSettledOrAll keys before.state steps then.state (count_of then.store) then.store.journal.generation mid) mid now t).others) in
       record {
         on_files = t.more;
         extends = t.extends;
@@ -126,6 +134,7 @@ module _ (keys : List WrappedKey) (before then after : Held) (steps more : ℕ) 
         settled = record {
           each = moments t.more t.each;
           done = λ well. absurd (false≢true (sym well));
+          raised = λ well. absurd (false≢true (sym well));
           quiet = λ well quiet. absurd (false≢true (sym well));
         };
       }
@@ -207,6 +216,7 @@ pub waits_by : (a b after : Held) (m n : ℕ) → KeepsTheSame a.store b.store �
 waits_by a b after m n same state steps w = record {
   journal = w.journal ∙ same.journal;
   count = omega (arith, w.count, same.count, steps);
+  total = λ k counted. omega (arith, w.total k (same.total ∙ counted), steps);
   leads = λ settled l. w.leads settled (record {
     steps = l.steps;
     spells = record { count = same.count ∙ l.spells.count; spelled = same.steps ∙ l.spells.spelled; admitted = l.spells.admitted };
@@ -217,7 +227,7 @@ waits_by a b after m n same state steps w = record {
 
 -- no step more
 pub waits_none : (engine : Held) → Waits engine engine 0
-waits_none engine = record { journal = refl; count = omega arith; leads = λ settled l. l; now = λ keys e. e }
+waits_none engine = record { journal = refl; count = omega arith; total = λ n counted. omega (arith, counted); leads = λ settled l. l; now = λ keys e. e }
 
 pub waits_same : (a b : Held) → KeepsTheSame a.store b.store → b.state ≡ a.state → Waits a b 0
 waits_same a b same state = waits_by a b b 0 0 same state refl (waits_none b)

@@ -1,7 +1,7 @@
 -- Runs that the theorem refuses: from each wrong list of calls, the newest first, and the theorem follows anything.
 use Rattle.std.proofs.lemmas.List.{same_from_push}
 use Rattle.std.specs.Prelude.{◌||◌}
-use Rattle.std.proofs.Common.{◌≡◌, ℕ, ◌+◌, ◌<◌, List, [], ◌∷◌, ◌++◌, length, take, Bool, true, false, Option, Some, None, Result, Ok, Err, refl, sym, ap, ◌∙◌, subst, arith, length-append, inl, inr}
+use Rattle.std.proofs.Common.{◌≡◌, ℕ, ◌+◌, ◌<◌, ◌≤◌, List, [], ◌∷◌, ◌++◌, length, take, Bool, true, false, Option, Some, None, Result, Ok, Err, refl, sym, ap, ◌∙◌, subst, arith, length-append, inl, inr}
 use Rattle.kms_host.specs.declared.call.Call.{Call}
 use Rattle.kms_host.specs.Disk.{files, IsImage}
 use Rattle.kms_host.specs.History.{History}
@@ -12,6 +12,7 @@ use Rattle.kms_host.specs.declared.call.FileCall.{FileCall}
 use Rattle.kms_host.specs.declared.call.FileCall.TheVariants.{Synced}
 use Rattle.kms_host.specs.declared.call.NameFault.{NameFault}
 use Rattle.kms_journal.specs.Device.{IsQuietStore}
+use Rattle.kms_journal.specs.Standing.{Standing, standing_of}
 use Rattle.kms_world.specs.State.{State}
 use Rattle.kms_record.specs.declared.key.WrappedKey.{WrappedKey}
 use Rattle.kms_core.specs.Stands.{Stands}
@@ -22,6 +23,7 @@ use Rattle.kms_http.specs.MessageStream.After.{Going, Over}
 use Rattle.kms_serve.specs.Answered.{Answered}
 use Rattle.kms_serve.specs.RunStart.{RunStart, history}
 use Rattle.kms_serve.specs.Events.{events}
+use Rattle.kms_serve.specs.Renewals.{renewals}
 use Rattle.kms_serve.specs.Replies.{state_by, steps_by, answered_of}
 use Rattle.kms_serve.specs.StoreCalls.{store_failed}
 use Rattle.kms_serve.specs.Theorem.{Carries, Serves}
@@ -129,6 +131,12 @@ pub changes_a_wrapped_key : (endpoint : List ℕ) (b : RunStart) (s : Status) (c
 changes_a_wrapped_key endpoint b s calls image keys state steps c quiet is stands differ =
     let h = (at_the_end endpoint b s calls c).safe.images quiet image is in
     differ (one_state image keys b.keys state (state_by b.first (take h.count (events calls)) c.marks) steps (b.steps + steps_by b.first (take h.count (events calls)) c.marks) stands h.stands).2
+
+-- it cuts files twice, and a stop may leave the generation with which it began
+pub cuts_in_vain : (endpoint : List ℕ) (b : RunStart) (s : Status) (calls : List Call) (image : List ℕ × List ℕ) (first left : Standing) → Serves endpoint b s calls
+    → IsQuietStore b.was → IsImage (history b calls) image → standing_of (files b.was) ≡ Some first → standing_of image ≡ Some left → left.generation ≡ first.generation → 2 ≤ renewals calls → ⊥
+cuts_in_vain endpoint b s calls image first left c quiet is began leaves same twice =
+    omega (arith, ((at_the_end endpoint b s calls c).renewed.images quiet image is first left began leaves).1, same, twice)
 
 -- it calls a file after a call of a file that failed
 pub goes_on_after_a_fault : (endpoint : List ℕ) (b : RunStart) (s : Status) (f g : ℕ) (c d : FileCall) (calls : List Call) → file_call_failed c ≡ true

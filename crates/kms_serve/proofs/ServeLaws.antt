@@ -6,6 +6,8 @@ use Rattle.kms_host.specs.Moment.{Since}
 use Rattle.kms_host.specs.declared.call.Call.{Call}
 use Rattle.kms_host.specs.declared.call.Call.TheVariants.{Attached}
 use Rattle.kms_host.proofs.Moments.{since_since, since_weaker, since_nothing}
+use Rattle.kms_journal.specs.Position.{Position}
+use Rattle.kms_journal.specs.Standing.{Standing}
 use Rattle.kms_record.specs.declared.key.WrappedKey.{WrappedKey}
 use Rattle.kms_core.specs.Stands.{Stands}
 use Rattle.kms_core.specs.Steps.{Held, IsSettled}
@@ -33,12 +35,16 @@ good_from endpoint store engine was can keys first steps stands =
     let one = one_state (files was) can.keys keys engine.state first can.steps steps (settled_stands engine can.steps was can.settled) stands in
     record {
       marks = [];
-      each = answered_as_before endpoint (run_start store was keys first steps) stands [] refl refl (λ line. refl) tt tt (before_all was);
+      each = answered_as_before endpoint (run_start store was keys first steps) stands [] refl refl refl (λ line. refl) tt tt (before_all was);
       marked = refl;
       counted = refl;
       state = one.0;
       settled = subst (λ (k : List WrappedKey). IsSettled k engine (steps + 0) was) one.2 (subst (λ (n : ℕ). IsSettled can.keys engine n was) (one.1 ∙ plus_none steps) can.settled);
       quiet = λ quiet. quiet;
+      above = λ quiet t first.
+          let o = can.settled.opened.opened in
+          let same : o.standing ≡ t = some_is o.standing t (sym o.placed.current ∙ first) in
+          ap (λ (p : Position). p.generation) o.placed.here ∙ ap (λ (x : Standing). x.generation) same ∙ plus_none t.generation;
       held = after-first [] refl;
       place = refl;
       owes = λ line. sym (on_line-nil line);

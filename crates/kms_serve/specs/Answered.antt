@@ -13,6 +13,7 @@ use Rattle.kms_serve.specs.RunStart.{RunStart, history}
 use Rattle.kms_serve.specs.Crash.{IsSafe}
 use Rattle.kms_serve.specs.Events.{events, most}
 use Rattle.kms_serve.specs.Opening.{IsAsBefore}
+use Rattle.kms_serve.specs.Renewals.{IsRenewed, renewals}
 use Rattle.kms_serve.specs.Replies.{steps_by, replies, before_newest, due}
 use Rattle.kms_serve.specs.StoreCalls.{store_failed}
 
@@ -84,7 +85,8 @@ InTurn endpoint start marks (Drew purpose bytes ∷ calls) = ⊥
 
 -- At this moment each time that was told belongs to one message, what was sent on each line is a prefix of what is due there,
 -- and what a stop leaves of the store holds each request that was acknowledged. Before the first request it is what it was.
--- There were at most two syncs for the opening, and two more for each step so far.
+-- There were at most two syncs for the opening, two more for each step so far, and three for each time that a snapshot was put
+-- in the place of the records, which began a generation of the store.
 pub record Answered (endpoint : List ℕ) (start : RunStart) (marks : List Mark) (calls : List Call) : Type 0 where
   pub within : length (events calls) ≤ length marks
   pub timed : length (times calls) ≡ length (events calls)
@@ -93,4 +95,5 @@ pub record Answered (endpoint : List ℕ) (start : RunStart) (marks : List Mark)
   pub still : IsStill calls
   pub safe : IsSafe endpoint start marks calls
   pub unasked : events calls ≡ [] → IsAsBefore start.was (history start calls)
-  pub few_syncs : syncs (history start calls).calls ≤ syncs start.was.calls + 2 + 2 * steps_by start.first (events calls) marks
+  pub few_syncs : syncs (history start calls).calls ≤ syncs start.was.calls + 2 + 2 * steps_by start.first (events calls) marks + 3 * renewals calls
+  pub renewed : IsRenewed start calls

@@ -14,6 +14,7 @@ use Rattle.kms_http.specs.MessageStream.After.{Going, Over}
 use Rattle.kms_world.specs.declared.refusal.Refusal.{Refusal}
 use Rattle.kms_serve.specs.RunStart.{RunStart, history}
 use Rattle.kms_serve.specs.Events.{events, most}
+use Rattle.kms_serve.specs.Renewals.{AllRenewed}
 use Rattle.kms_serve.specs.Replies.{state_by, steps_by, replies, due}
 use Rattle.kms_serve.specs.StoreCalls.{store_failed}
 use Rattle.kms_serve.specs.declared.status.Status.{Status}
@@ -24,13 +25,15 @@ abbrev pub AllGiven : (endpoint : List ℕ) → RunStart → List Mark → List 
 AllGiven endpoint start marks calls = (line : ℕ) → sent line calls ≡ replies line endpoint start.first (events calls) marks
 
 -- The store stands for the state after all events, and has their steps, and no call of it failed. If nothing was pending when
--- the run began, nothing is, and each crash image stands for that state and has those steps.
+-- the run began, nothing is, each crash image stands for that state and has those steps, and each snapshot that was begun is
+-- whole.
 pub record AllKept (start : RunStart) (marks : List Mark) (calls : List Call) : Type 0 where
   pub stands : Stands start.keys (files (history start calls)) (state_by start.first (events calls) marks) (start.steps + steps_by start.first (events calls) marks)
   pub quiet : IsQuietStore start.was → IsQuietStore (history start calls)
   pub images : IsQuietStore start.was → (image : List ℕ × List ℕ) → IsImage (history start calls) image
       → Stands start.keys image (state_by start.first (events calls) marks) (start.steps + steps_by start.first (events calls) marks)
   pub unfailed : store_failed calls ≡ false
+  pub renewed : AllRenewed start calls
 
 -- The line was read to its end, and the bytes after its last message are a part of one, which begins at this place.
 pub record EndsInside (place : ℕ) (calls : List Call) : Type 0 where

@@ -7,6 +7,7 @@ pub mod Init
 pub mod Opening
 pub mod Owed
 pub mod Owing
+pub mod Renewals
 pub mod Replies
 pub mod Requests
 pub mod RunStart

@@ -5,6 +5,7 @@ use Rattle.kms_host.specs.Moment.{AtEach, then_calls}
 use Rattle.kms_host.specs.Line.{sent, failed_on}
 use Rattle.kms_host.specs.declared.call.Call.{Call}
 use Rattle.kms_host.specs.declared.call.Call.TheVariants.{Text, Listened, Came, Attached, Took, Gave, Shut, OnFile, Told, Drew}
+use Rattle.kms_journal.specs.Cuts.{cuts}
 use Rattle.kms_journal.specs.Device.{IsQuietStore}
 use Rattle.kms_record.specs.declared.key.WrappedKey.{WrappedKey}
 use Rattle.kms_core.specs.Settling.{IsSettledOrAll}
@@ -46,8 +47,9 @@ pub record Responds (endpoint : List ℕ) (before after : Held) (e : LineEvent) 
 
 -- While the steps of an event are settled, from this moment on. Where the store failed in it, no more is known of it.
 pub record Settled (keys : List WrappedKey) (before after : Held) (steps more : ℕ) (failed : Bool) (mid : History) (files : List Call) : Type 0 where
-  pub each : AtEach (λ x. IsSettledOrAll keys before.state steps after.state more mid (then_calls mid x)) files
+  pub each : AtEach (λ x. IsSettledOrAll keys before.state steps after.state more before.store.journal.generation mid (then_calls mid x)) files
   pub done : failed ≡ false → IsSettled keys after (steps + more) (then_calls mid files)
+  pub raised : failed ≡ false → after.store.journal.generation + cuts mid.calls ≡ before.store.journal.generation + cuts (then_calls mid files).calls
   pub quiet : failed ≡ false → IsQuietStore mid → IsQuietStore (then_calls mid files)
 
 -- A message was answered: its time was told, its steps were settled by calls on files, and no other call was made. Where one
