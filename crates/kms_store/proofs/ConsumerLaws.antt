@@ -22,6 +22,7 @@ use Rattle.kms_kept.proofs.ApartLaws.{fresh}
 use Rattle.kms_kept.proofs.RisingLaws.{one_id}
 use Rattle.kms_store.specs.Tally.{rows_in}
 use Rattle.kms_store.specs.Tally.{ProjectRows}
+use Rattle.kms_store.proofs.CountLaws.{count_left}
 use Rattle.kms_store.proofs.TableLaws.{put_last}
 
 -- two tests that agree on each row count alike
@@ -106,25 +107,7 @@ module _ (project : List ℕ) where
   -- consumers of one container go: as many fewer, if it is the project's
   pub drop_through : (id : Id) (test : ConsumerRow → Bool) (cs : List ContainerRow) (found : Option ContainerRow) → container_of id cs ≡ found → ((d : ConsumerRow) → test d ≡ true → d.container.0 ≡ id.0) → (ds : List ConsumerRow)
       → length (filter (through cs) (drop_rows test ds)) + cond (has found owns) (length (filter test ds)) 0 ≡ length (filter (through cs) ds)
-  drop_through id test cs found is on [] = none (has found owns)
-    where
-      none : (b : Bool) → ◌≡◌ {A = ℕ} (0 + cond b 0 0) 0
-      none true = refl
-      none false = refl
-  drop_through id test cs found is on (d ∷ ds) = elim (cases_Bool (test d)) [
-    | inl t ↦ rw (t, on_it id cs found d is (on d t)) (here (has found owns) (drop_through id test cs found is on ds))
-    | inr f ↦ rw f (there (through cs d) (drop_through id test cs found is on ds))
-  ]
-    where
-      here : (b : Bool) → length (filter (through cs) (drop_rows test ds)) + cond b (length (filter test ds)) 0 ≡ length (filter (through cs) ds)
-          → length (filter (through cs) (drop_rows test ds)) + cond b (suc (length (filter test ds))) 0 ≡ length (cond b (d ∷ filter (through cs) ds) (filter (through cs) ds))
-      here true e = omega (arith, e)
-      here false e = e
-
-      there : (b : Bool) → length (filter (through cs) (drop_rows test ds)) + cond (has found owns) (length (filter test ds)) 0 ≡ length (filter (through cs) ds)
-          → length (cond b (d ∷ filter (through cs) (drop_rows test ds)) (filter (through cs) (drop_rows test ds))) + cond (has found owns) (length (filter test ds)) 0 ≡ length (cond b (d ∷ filter (through cs) ds) (filter (through cs) ds))
-      there true e = omega (arith, e)
-      there false e = e
+  drop_through id test cs found is on ds = count_left (through cs) test (has found owns) (λ d passed. on_it id cs found d is (on d passed)) ds
 
 -- what passes one test passes another
 pub fewer_pass : {X : Type 0} (p q : X → Bool) → ((x : X) → p x ≡ true → q x ≡ true) → (xs : List X) → length (filter p xs) ≤ length (filter q xs)

@@ -19,6 +19,29 @@ module _ {X : Type 0} (counted : X → Bool) where
     | inr f ↦ rw f (count_push xs row)
   ]
 
+  -- rows go that are all counted, or none of them
+  pub count_left : (test : X → Bool) (b : Bool) → ((x : X) → test x ≡ true → counted x ≡ b) → (rows : List X)
+      → length (filter counted (drop_rows test rows)) + cond b (length (filter test rows)) 0 ≡ length (filter counted rows)
+  count_left test b alike [] = none b
+    where
+      none : (b : Bool) → ◌≡◌ {A = ℕ} (0 + cond b 0 0) 0
+      none true = refl
+      none false = refl
+  count_left test b alike (x ∷ xs) = elim (cases_Bool (test x)) [
+    | inl t ↦ rw (t, alike x t) (here b (count_left test b alike xs))
+    | inr f ↦ rw f (there (counted x) (count_left test b alike xs))
+  ]
+    where
+      here : (b : Bool) → length (filter counted (drop_rows test xs)) + cond b (length (filter test xs)) 0 ≡ length (filter counted xs)
+          → length (filter counted (drop_rows test xs)) + cond b (suc (length (filter test xs))) 0 ≡ length (cond b (x ∷ filter counted xs) (filter counted xs))
+      here true e = omega (arith, e)
+      here false e = e
+
+      there : (c : Bool) → length (filter counted (drop_rows test xs)) + cond b (length (filter test xs)) 0 ≡ length (filter counted xs)
+          → length (cond c (x ∷ filter counted (drop_rows test xs)) (filter counted (drop_rows test xs))) + cond b (length (filter test xs)) 0 ≡ length (cond c (x ∷ filter counted xs) (filter counted xs))
+      there true e = omega (arith, e)
+      there false e = e
+
   -- rows are changed in nothing by which they are counted
   pub count_changed : (test : X → Bool) (g : X → X) → ((x : X) → counted (g x) ≡ counted x) → (rows : List X) → length (filter counted (change_rows test g rows)) ≡ length (filter counted rows)
   count_changed test g same [] = refl

@@ -1,5 +1,6 @@
 pub mod CheckpointLaws
 pub mod ConsumerLaws
+pub mod ConsumersLaws
 pub mod CountLaws
 pub mod DamageLaws
 pub mod EditLaws

@@ -1,4 +1,5 @@
 pub mod Checkpoint
+pub mod Consumers
 pub mod Counts
 pub mod Due
 pub mod Gives

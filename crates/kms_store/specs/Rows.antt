@@ -39,7 +39,7 @@ pub record AreOrdered (r : Rows) : Type 0 where
 pub record HasSpace (n : ℕ) (r : Rows) : Type 0 where
   pub secrets : n ≤ r.secrets.spare
   pub containers : n ≤ r.containers.spare
-  pub consumers : vec_len r.consumers + n ≤ vec_capacity r.consumers
+  pub consumers : n ≤ r.consumers.spare
   pub orders : n ≤ r.orders.spare
   pub acls : n ≤ r.acls.spare
   pub quotas : n ≤ r.quotas.spare

@@ -41,13 +41,6 @@ pub(crate) fn is_consumer(row: &ConsumerRow, container: Id, name: &Text, url: &T
         && url.as_str().as_bytes() == row.url.as_str().as_bytes()
 }
 
-fn has_consumer(rows: &[ConsumerRow], container: Id, name: &Text, url: &Text) -> bool
-    ensures { result ≡ list_any (is_consumer container name.now url.now) rows.now }
-{
-    rows.iter()
-        .any(|row| is_consumer(row, container, name, url))
-}
-
 fn may_replace_container(put: &ContainerPut, row: &ContainerRow) -> bool
     ensures { result ≡ may_replace_container put.now row.now }
 {
@@ -243,7 +236,7 @@ impl Rows {
         ensures { result ≡ applies Records (Change.ConsumerAdded put.now) (kept_in self.now) }
     {
         let id = self.id(put.container);
-        self.container(id).is_some() && !has_consumer(&self.consumers, id, &put.name, &put.url)
+        self.container(id).is_some() && !self.consumers.has(id, &put.name, &put.url)
     }
 
     fn may_drop_consumer(&self, put: &ConsumerDropped) -> bool
@@ -252,7 +245,7 @@ impl Rows {
         ensures { result ≡ applies Records (Change.ConsumerDropped put.now) (kept_in self.now) }
     {
         let id = self.id(put.container);
-        has_consumer(&self.consumers, id, &put.name, &put.url)
+        self.consumers.has(id, &put.name, &put.url)
     }
 
     fn may_put_acl(&self, put: &AclPut) -> bool

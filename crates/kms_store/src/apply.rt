@@ -14,7 +14,6 @@ ghost use Rattle.kms_store.specs.Rows.{kept_in, with_state, AreOrdered, HasSpace
 
 use crate::ready::Prepared;
 use crate::rows::Rows;
-use crate::table::push_reserved;
 use crate::{KeptSecret, edits, keys};
 use kms_record::{
     AclPut, Change, ConsumerAdded, ConsumerDropped, KeyDropped, MetadataPut, OrderPut, PayloadPut,
@@ -107,7 +106,7 @@ impl Rows {
         ensures kept { kept_in self.new ≡ changed (Change.ConsumerAdded put) (kept_in self.old) }
         ensures space { LeavesSpace self.old self.new }
     {
-        push_reserved(&mut self.consumers, put.into_row(self.tag));
+        self.consumers.push(put.into_row(self.tag));
     }
 
     fn drop_consumer(&mut self, put: ConsumerDropped)
@@ -117,7 +116,7 @@ impl Rows {
         ensures space { LeavesSpace self.old self.new }
     {
         let id = self.id(put.container);
-        edits::drop_consumer(&mut self.consumers, id, &put.name, &put.url);
+        self.consumers.drop_like(id, &put.name, &put.url);
     }
 
     fn put_acl(&mut self, put: AclPut)
@@ -173,7 +172,7 @@ impl Rows {
         let id = self.id(count);
         self.secrets.drop_id(id);
         self.containers.drop_id(id);
-        edits::drop_consumers(&mut self.consumers, id);
+        self.consumers.drop_on(id);
         self.orders.drop_id(id);
         self.acls.drop_key(&id);
     }

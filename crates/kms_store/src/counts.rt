@@ -20,14 +20,13 @@ ghost use Rattle.kms_store.specs.Ready.{puts_container};
 ghost use Rattle.kms_store.specs.Rows.{kept_in, AreOrdered, HasSpace};
 ghost use Rattle.kms_store.specs.Table.{Rises};
 
-use crate::applies::is_consumer;
 use crate::ready::Prepared;
 use crate::row::Row;
 use crate::rows::Rows;
 use crate::table::Table;
 use crate::tally::{ProjectRows, add, number_in, take};
 use kms_record::{Change, ConsumerAdded, ConsumerDropped, OrderPut, SecretPut};
-use kms_world::{ConsumerRow, ContainerRow, Id, Name, NoMemory, QuotaKind, Text};
+use kms_world::{ContainerRow, Id, Name, NoMemory, QuotaKind};
 use std::alloc::Global;
 
 /// The rows of each project, of each kind.
@@ -38,14 +37,6 @@ pub(crate) struct Counts {
     orders: Vec<ProjectRows>,
     /// of a container's project
     consumers: Vec<ProjectRows>,
-}
-
-// A table with memory for one row more doesn't have all rows that can be counted.
-fn few<R>(rows: &Vec<R>)
-    requires { vec_len rows.now < vec_capacity rows.now }
-    ensures { length rows.now.items < 2 ^ 64 - 1 }
-{
-    prove!(rows.len() < rows.capacity());
 }
 
 // A row of this project is put last.
@@ -87,24 +78,6 @@ fn count_put<R: Row>(entries: &mut Vec<ProjectRows>, rows: &Table<R>, id: Id, pr
     rows.few();
     count_drop(entries, rows, id);
     add(entries, project, 1);
-}
-
-fn consumers_like(consumers: &[ConsumerRow], container: Id, name: &Text, url: &Text) -> usize
-    ensures { result ≡ length (filter (is_consumer container name.now url.now) consumers.now) }
-{
-    consumers
-        .iter()
-        .filter(|row| is_consumer(row, container, name, url))
-        .count()
-}
-
-fn consumers_on(consumers: &[ConsumerRow], container: Id) -> usize
-    ensures { result ≡ length (filter (λ r. is_id container r.container) consumers.now) }
-{
-    consumers
-        .iter()
-        .filter(|row| row.container.0 == container.0)
-        .count()
 }
 
 // So many consumers of a container go.
@@ -197,7 +170,7 @@ impl Counts {
         ensures entries { LeavesEntries self.old self.new }
     {
         let id = rows.id(count);
-        let gone = consumers_on(&rows.consumers, id);
+        let gone = rows.consumers.count_on(id);
         take_consumers(&mut self.consumers, rows, id, gone);
         count_drop(&mut self.secrets, &rows.secrets, id);
         count_drop(&mut self.containers, &rows.containers, id);
@@ -213,7 +186,7 @@ impl Counts {
         ensures counted { AreCounted self.new (changed (Change.ConsumerAdded put.now) (kept_in rows.now)).state }
         ensures entries { LeavesEntries self.old self.new }
     {
-        few(&rows.consumers);
+        rows.consumers.few();
         if let Some(row) = rows.container(rows.id(put.container)) {
             add(&mut self.consumers, &row.project, 1);
         }
@@ -227,7 +200,7 @@ impl Counts {
         ensures entries { LeavesEntries self.old self.new }
     {
         let id = rows.id(put.container);
-        let gone = consumers_like(&rows.consumers, id, &put.name, &put.url);
+        let gone = rows.consumers.count_like(id, &put.name, &put.url);
         take_consumers(&mut self.consumers, rows, id, gone);
     }
 

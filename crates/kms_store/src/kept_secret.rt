@@ -27,9 +27,11 @@ impl Model for KeptSecret {
 
     ghost Value = { SecretRow };
 
-    ghost use Rattle.kms_store.specs.KeptSecretFields.{kept_row};
+    ghost use Rattle.kms_store.specs.KeptSecretFields.{kept_row, IsNumbered};
 
     ghost view = { kept_row };
+
+    ghost invariant = { IsNumbered };
 }
 
 impl KeptSecret {
@@ -48,9 +50,10 @@ impl KeptSecret {
         &self.row
     }
 
-    /// The number of the token's key.
+    /// The number of the token's key, or 0 where there is no payload.
     pub fn number(&self) -> u32
-        ensures { IfSome self.now.payload (λ p. slice_index p.bytes 0 ≡ result) }
+        ensures token { IfSome self.now.payload (λ p. slice_index p.bytes 0 ≡ result) }
+        ensures none { self.now.payload ≡ None → result ≡ 0 }
     {
         self.number
     }
@@ -107,8 +110,8 @@ impl KeptSecret {
                 media: payload.media,
                 bytes: token,
             });
+            self.number = number;
         }
-        self.number = number;
     }
 
     /// It has a token under this key of the project.

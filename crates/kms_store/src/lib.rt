@@ -4,6 +4,7 @@
 mod applies;
 mod apply;
 mod checkpointing;
+mod consumers;
 mod counts;
 mod edits;
 mod index_key;

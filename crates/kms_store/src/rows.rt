@@ -6,11 +6,12 @@ ghost use Rattle.kms_store.specs.Rows.{kept_in, AreOrdered, HasSpace};
 ghost use Rattle.kms_store.specs.Table.{Rises};
 
 use crate::KeptSecret;
+use crate::consumers::Consumers;
 use crate::keyed::KeyedTable;
 use crate::keys::key_in;
 use crate::table::Table;
 use kms_record::WrappedKey;
-use kms_world::{AclRow, ConsumerRow, ContainerRow, Id, Name, NoMemory, OrderRow, QuotaRow};
+use kms_world::{AclRow, ContainerRow, Id, Name, NoMemory, OrderRow, QuotaRow};
 use std::alloc::Global;
 
 /// The rows of a store in their tables, each in order of creation, and the wrapped keys.
@@ -20,7 +21,7 @@ pub(crate) struct Rows {
     pub(crate) ids: u64,
     pub(crate) secrets: Table<KeptSecret>,
     pub(crate) containers: Table<ContainerRow>,
-    pub(crate) consumers: Vec<ConsumerRow>,
+    pub(crate) consumers: Consumers,
     pub(crate) orders: Table<OrderRow>,
     pub(crate) acls: KeyedTable<AclRow>,
     pub(crate) quotas: KeyedTable<QuotaRow>,
@@ -41,7 +42,7 @@ impl Rows {
             ids,
             secrets: Table::new(alloc),
             containers: Table::new(alloc),
-            consumers: Vec::new(alloc),
+            consumers: Consumers::new(alloc),
             orders: Table::new(alloc),
             acls: KeyedTable::new(alloc),
             quotas: KeyedTable::new(alloc),

@@ -215,7 +215,7 @@ impl Tables {
     pub fn consumers(&self) -> &[ConsumerRow]
         ensures { result.now ≡ self.now.kept.state.consumers }
     {
-        &self.rows.consumers
+        self.rows.consumers.as_slice()
     }
 
     /// The orders in order of creation.

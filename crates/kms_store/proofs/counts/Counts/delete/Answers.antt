@@ -15,7 +15,7 @@ pub returns-clause-counted : goal.returns-clause-counted
 returns-clause-counted c =
     let rows = c.args.rows.now in
     let id = c.id-id.result in
-    let gone = c.consumers_on-gone.ensures ∙ ap (λ (ds : List ConsumerRow). length (filter (λ (d : ConsumerRow). is_id id d.container) ds)) c.deref.ensures.value in
+    let gone = c.count_on-gone.ensures in
     let new : Counts = record { secrets = c.count_drop.new.entries; containers = c.count_drop-2.new.entries; orders = c.count_drop-3.new.entries; consumers = c.take_consumers.new.entries } in
     subst (λ (i : Id). AreCounted new (after_effect (effects.Deleted i) (kept_in rows).state)) c.id-id.ensures (record {
       secrets = c.count_drop.ensures.tally;
@@ -24,7 +24,7 @@ returns-clause-counted c =
       consumers = record {
         ascend = c.take_consumers.ensures.ascend;
         each = λ p.
-            left_through id rows.containers.items rows.consumers.items c.args.self.now.consumers.items c.requires.counted.consumers.each (λ d. is_id id d.container) c.consumers_on-gone.result c.take_consumers.new.entries.items (λ d t. t) gone c.take_consumers.ensures.rows p
+            left_through id rows.containers.items rows.consumers.items c.args.self.now.consumers.items c.requires.counted.consumers.each (λ d. is_id id d.container) c.count_on-gone.result c.take_consumers.new.entries.items (λ d t. t) gone c.take_consumers.ensures.rows p
             ∙ sym (gone_through p id rows.containers.items rows.consumers.items);
       };
     })

@@ -16,7 +16,7 @@ take_consumers-requires-clause-gone c =
     let rows = c.args.rows.now in
     let id = c.id-id.result in
     let put = c.args.put.now in
-    let gone = c.consumers_like-gone.ensures ∙ ap (λ (ds : List ConsumerRow). length (filter (is_consumer id put.name put.url) ds)) c.deref.ensures.value in
+    let gone = c.count_like-gone.ensures in
     let on : ConsumerRow → Bool = λ d. is_id id d.container in
     subst (λ (n : ℕ). n ≤ length (filter on rows.consumers.items)) (sym gone) (fewer_pass (is_consumer id put.name put.url) on (on_container id put.name put.url) rows.consumers.items)
 
@@ -25,7 +25,7 @@ returns-clause-counted c =
     let rows = c.args.rows.now in
     let id = c.id-id.result in
     let put = c.args.put.now in
-    let gone = c.consumers_like-gone.ensures ∙ ap (λ (ds : List ConsumerRow). length (filter (is_consumer id put.name put.url) ds)) c.deref.ensures.value in
+    let gone = c.count_like-gone.ensures in
     let new : Counts = record c.args.self.now { consumers = c.take_consumers.new.entries } in
     subst (λ (i : Id). AreCounted new (after_effect (effects.ConsumerDropped i put.name put.url) (kept_in rows).state)) c.id-id.ensures (record {
       secrets = c.requires.counted.secrets;
@@ -33,6 +33,6 @@ returns-clause-counted c =
       orders = c.requires.counted.orders;
       consumers = record {
         ascend = c.take_consumers.ensures.ascend;
-        each = left_through id rows.containers.items rows.consumers.items c.args.self.now.consumers.items c.requires.counted.consumers.each (is_consumer id put.name put.url) c.consumers_like-gone.result c.take_consumers.new.entries.items (on_container id put.name put.url) gone c.take_consumers.ensures.rows;
+        each = left_through id rows.containers.items rows.consumers.items c.args.self.now.consumers.items c.requires.counted.consumers.each (is_consumer id put.name put.url) c.count_like-gone.result c.take_consumers.new.entries.items (on_container id put.name put.url) gone c.take_consumers.ensures.rows;
       };
     })

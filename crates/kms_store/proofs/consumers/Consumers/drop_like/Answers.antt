@@ -1,0 +1,41 @@
+use Rattle.std.proofs.Common.{◌≡◌, ◌∙◌, ◌+◌, ◌-◌, ◌<◌, ◌≤◌, ◌^◌, ℕ, Bool, cond, List, length, ap, subst, sym, arith}
+use Rattle.std.specs.Prelude.{filter}
+use Rattle.kms_world.specs.Effect.{drop_rows, is_consumer}
+use Rattle.kms_world.specs.Id.{is_id}
+use Rattle.kms_world.specs.declared.id.Id.{Id}
+use Rattle.kms_world.specs.declared.container.ConsumerRow.{ConsumerRow}
+use Rattle.kms_store.specs.Consumers.{count_on}
+use Rattle.kms_store.specs.Table.{Tabular}
+use Rattle.kms_store.proofs.ConsumerLaws.{fewer_pass, on_container}
+use Rattle.kms_store.proofs.ConsumersLaws.{none_any, none_dropped, counts_left}
+use Rattle.kms_store.proofs.CountLaws.{count_push, counted_few}
+use Rattle.kms_store.proofs.consumers.Consumers.drop_like.Goals as goal
+
+pub take-requires-clause-least : goal.take-requires-clause-least
+take-requires-clause-least c =
+    let id = c.args.container in
+    let test : ConsumerRow → Bool = is_consumer id c.args.name.now c.args.url.now in
+    let rows = c.self.inside.rows.items in
+    let gone : c.count_like-gone.result ≡ length (filter test rows) = subst (λ (t : Tabular ConsumerRow). c.count_like-gone.result ≡ length (filter test t.items)) (sym c.self.view_is) c.count_like-gone.ensures in
+    omega (arith, gone, c.self.invariant.each id, fewer_pass test (λ (d : ConsumerRow). is_id id d.container) (on_container id c.args.name.now c.args.url.now) rows)
+
+pub invariant_of-self : goal.invariant_of-self
+invariant_of-self c =
+    let id = c.args.container in
+    let test : ConsumerRow → Bool = is_consumer id c.args.name.now c.args.url.now in
+    let rows = c.self.inside.rows.items in
+    let gone : c.count_like-gone.result ≡ length (filter test rows) = subst (λ (t : Tabular ConsumerRow). c.count_like-gone.result ≡ length (filter test t.items)) (sym c.self.view_is) c.count_like-gone.ensures in
+    record {
+      ascend = c.take.ensures.ascend;
+      each = λ other.
+          counts_left id test (on_container id c.args.name.now c.args.url.now) rows c.count_like-gone.result c.self.inside.on.items c.take.new.entries.items gone c.self.invariant.each c.take.ensures.numbers other
+          ∙ ap (count_on other) (sym c.drop_consumer.ensures.items);
+      on_fit = omega (arith, c.self.invariant.on_fit, c.take.ensures.len, c.take.ensures.capacity);
+      rows_fit = omega (arith, c.self.invariant.rows_fit, c.drop_consumer.ensures.len, c.drop_consumer.ensures.capacity);
+    }
+
+pub returns-else-gone-gt0-clause-items : goal.returns-else-gone-gt0-clause-items
+returns-else-gone-gt0-clause-items c =
+    let id = c.args.container in
+    let test : ConsumerRow → Bool = is_consumer id c.args.name.now c.args.url.now in
+    sym (none_dropped test c.args.self.now.items (sym c.count_like-gone.ensures ∙ omega (arith, c.if-gone-gt0.false)))
