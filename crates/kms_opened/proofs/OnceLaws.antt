@@ -37,7 +37,7 @@ module _ (masters : List (List ℕ)) (fit : AllByRecursion (IsBytes 32) masters)
       let key : there.key ≡ q.key = unwrapped_once masters q.row.wrapped there.key q.key fit (subst (λ (r : WrappedKey). IsUnwrapped masters r.wrapped there.key) row there.unwraps) q.unwraps in
       opens_once q.key token a b q.unwraps.opens.fits (subst (λ (k : List ℕ). Opens k token a) key there.opens) q.opens
 
-  payload_once : (keys : List WrappedKey) (project : List ℕ) (sealed a b : Option Payload) → OpensPayload masters keys project sealed a → OpensPayload masters keys project sealed b → a ≡ b
+  pub payload_once : (keys : List WrappedKey) (project : List ℕ) (sealed a b : Option Payload) → OpensPayload masters keys project sealed a → OpensPayload masters keys project sealed b → a ≡ b
   payload_once keys project None None None p q = refl
   payload_once keys project None None (Some b) p q = absurd q
   payload_once keys project None (Some a) b p q = absurd p

@@ -1,0 +1,9 @@
+pub mod Drawing
+pub mod Fit
+pub mod KeyFile
+pub mod Opening
+pub mod Payload
+pub mod Places
+pub mod ProjectKeys
+pub mod ProjectKeysFields
+pub mod Sealed
