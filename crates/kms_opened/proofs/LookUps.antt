@@ -1,5 +1,5 @@
 -- Secrets by their ids, where ids rise.
-use Rattle.std.proofs.Common.{◌≡◌, ℕ, ◌<◌, Bool, true, false, List, [], ◌∷◌, ◌++◌, map, Option, Some, refl, sym, ap, subst, ◌∙◌, arith, inl, inr}
+use Rattle.std.proofs.Common.{◌≡◌, ℕ, ◌<◌, Bool, true, false, List, [], ◌∷◌, ◌++◌, map, Option, Some, None, refl, sym, ap, subst, ◌∙◌, arith, inl, inr}
 use Rattle.std.specs.Prelude.{find}
 use Rattle.std.specs.List.{AllByRecursion, AllZip}
 use Rattle.std.proofs.lemmas.Bool.{cases_Bool, eqb-true, ne_eqb}
@@ -56,6 +56,37 @@ found_sealed R same id (a ∷ xs) (b ∷ ys) y each found = elim (cases_Bool (is
       let past : is_id id a.id ≡ false = ap (λ (i : Id). is_id id i) (sym (same a b each.0)) ∙ f in
       let s = found_sealed R same id xs ys y each.1 (rw f at found) in
       record { row = s.row; found = rw past s.found; opens = s.opens }
+]
+
+-- what is found in the kept rows stands opened in the others
+pub record Standing (R : SecretRow → SecretRow → Type 0) (id : Id) (x : SecretRow) (ys : List SecretRow) : Type 0 where
+  pub row : SecretRow
+  pub found : secret_of id ys ≡ Some row
+  pub opens : R x row
+
+pub found_opened : (R : SecretRow → SecretRow → Type 0) → ((x y : SecretRow) → R x y → y.id ≡ x.id) → (id : Id) (xs ys : List SecretRow) (x : SecretRow) → AllZip R xs ys → secret_of id xs ≡ Some x → Standing R id x ys
+found_opened R same id [] [] x each found = absurd cc
+found_opened R same id [] (b ∷ ys) x each found = absurd each
+found_opened R same id (a ∷ xs) [] x each found = absurd each
+found_opened R same id (a ∷ xs) (b ∷ ys) x each found = elim (cases_Bool (is_id id a.id)) [
+  | inl t ↦
+      let here : is_id id b.id ≡ true = ap (λ (i : Id). is_id id i) (same a b each.0) ∙ t in
+      record { row = b; found = rw here refl; opens = subst (λ (z : SecretRow). R z b) (some_same a x (rw t at found)) each.0 }
+  | inr f ↦
+      let past : is_id id b.id ≡ false = ap (λ (i : Id). is_id id i) (same a b each.0) ∙ f in
+      let s = found_opened R same id xs ys x each.1 (rw f at found) in
+      record { row = s.row; found = rw past s.found; opens = s.opens }
+]
+
+pub found_neither : (R : SecretRow → SecretRow → Type 0) → ((x y : SecretRow) → R x y → y.id ≡ x.id) → (id : Id) (xs ys : List SecretRow) → AllZip R xs ys → secret_of id xs ≡ None → secret_of id ys ≡ None
+found_neither R same id [] [] each found = refl
+found_neither R same id [] (b ∷ ys) each found = absurd each
+found_neither R same id (a ∷ xs) [] each found = absurd each
+found_neither R same id (a ∷ xs) (b ∷ ys) each found = elim (cases_Bool (is_id id a.id)) [
+  | inl t ↦ let there : Some a ≡ None = rw t at found in absurd cc
+  | inr f ↦
+      let past : is_id id b.id ≡ false = ap (λ (i : Id). is_id id i) (same a b each.0) ∙ f in
+      rw past (found_neither R same id xs ys each.1 (rw f at found))
 ]
 
 -- a new row is found under its id

@@ -1,6 +1,7 @@
 -- What holds of a state to which something kept opens.
 use Rattle.std.proofs.Common.{◌≡◌, ℕ, ◌≤◌, List, [], ◌∷◌, map, length, Option, Some, None, IfSome, refl, sym, ap, subst, ◌∙◌}
 use Rattle.std.specs.List.{AllByRecursion, AllZip}
+use Rattle.kms_world.specs.LookUp.{secret_of}
 use Rattle.kms_world.specs.State.{State, empty_state}
 use Rattle.kms_world.specs.declared.id.Id.{Id}
 use Rattle.kms_world.specs.declared.payload.Payload.{Payload}
@@ -8,7 +9,8 @@ use Rattle.kms_world.specs.declared.secret.SecretRow.{SecretRow}
 use Rattle.kms_record.specs.declared.key.WrappedKey.{WrappedKey}
 use Rattle.kms_kept.specs.Kept.{Kept, secret_ids, nothing_kept}
 use Rattle.kms_kept.specs.Rising.{Rises, IsRising}
-use Rattle.kms_opened.specs.Opened.{OpensPayload, OpensRow, Opened, HasFittingPayload}
+use Rattle.kms_opened.specs.Opened.{OpensPayload, OpensRow, Opened, HasFittingPayload, IsFoundOpened}
+use Rattle.kms_opened.proofs.LookUps.{found_opened, found_neither}
 
 -- ---- ids rise in it
 
@@ -27,6 +29,19 @@ rising_opened masters kept s o r =
       containers = subst (λ (z : State). Rises z.tag z.ids (map (λ c. c.id) z.containers)) back r.containers;
       orders = subst (λ (z : State). Rises z.tag z.ids (map (λ c. c.id) z.orders)) back r.orders;
     }
+
+-- ---- secrets are found in it
+
+same_id : (masters : List (List ℕ)) (keys : List WrappedKey) (x y : SecretRow) → OpensRow masters keys x y → y.id ≡ x.id
+same_id masters keys x y r = ap (λ (z : SecretRow). z.id) r.same
+
+pub found_there : (masters : List (List ℕ)) (kept : Kept) (s : State) → Opened masters kept s → (id : Id) (sealed : SecretRow) → secret_of id kept.state.secrets ≡ Some sealed → IsFoundOpened masters kept.keys id sealed s.secrets
+found_there masters kept s o id sealed found =
+    let f = found_opened (OpensRow masters kept.keys) (same_id masters kept.keys) id kept.state.secrets s.secrets sealed o.secrets found in
+    record { row = f.row; found = f.found; opens = f.opens }
+
+pub found_nowhere : (masters : List (List ℕ)) (kept : Kept) (s : State) → Opened masters kept s → (id : Id) → secret_of id kept.state.secrets ≡ None → secret_of id s.secrets ≡ None
+found_nowhere masters kept s o id found = found_neither (OpensRow masters kept.keys) (same_id masters kept.keys) id kept.state.secrets s.secrets o.secrets found
 
 -- ---- its payloads have 1 to 20,000 bytes
 

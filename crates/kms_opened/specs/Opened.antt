@@ -3,7 +3,9 @@ use Rattle.std.specs.Prelude.{◌≡◌, ℕ, ◌≤◌, List, [], ◌∷◌, le
 use Rattle.std.specs.List.{AllByRecursion, AllZip}
 use Rattle.kms_fernet.specs.Token.{Opens}
 use Rattle.kms_ring.specs.Ring.{IsUnwrapped}
+use Rattle.kms_world.specs.LookUp.{secret_of}
 use Rattle.kms_world.specs.State.{State}
+use Rattle.kms_world.specs.declared.id.Id.{Id}
 use Rattle.kms_world.specs.declared.payload.Payload.{Payload}
 use Rattle.kms_world.specs.declared.secret.SecretRow.{SecretRow}
 use Rattle.kms_record.specs.declared.key.WrappedKey.{WrappedKey}
@@ -51,6 +53,12 @@ pub record Opened (masters : List (List ℕ)) (kept : Kept) (state : State) : Ty
   pub keys : AllByRecursion (KeyOpens masters) kept.keys
   pub secrets : AllZip (OpensRow masters kept.keys) kept.state.secrets state.secrets
   pub others : besides state ≡ besides kept.state
+
+-- the opened row of this id, of what is kept of it
+pub record IsFoundOpened (masters : List (List ℕ)) (keys : List WrappedKey) (id : Id) (sealed : SecretRow) (rows : List SecretRow) : Type 0 where
+  pub row : SecretRow
+  pub found : secret_of id rows ≡ Some row
+  pub opens : OpensRow masters keys sealed row
 
 -- its payload, where it has one, has 1 to 20,000 bytes
 abbrev pub HasFittingPayload : SecretRow → Type 0

@@ -20,7 +20,7 @@ ghost use Rattle.kms_record.specs.SecretPut.{row_of};
 ghost use Rattle.kms_kept.specs.Kept.{Kept, Part, Records, applies, changed, nothing_kept};
 ghost use Rattle.kms_kept.specs.Rising.{IsGiven, IsRising};
 ghost use Rattle.kms_opened.specs.Made.{made};
-ghost use Rattle.kms_opened.specs.Opened.{KeyOpens, OpensUnder, Opened, HasFittingPayload};
+ghost use Rattle.kms_opened.specs.Opened.{KeyOpens, OpensUnder, Opened, HasFittingPayload, IsFoundOpened};
 ghost use Rattle.kms_opened.specs.Steps.{OpensTo, HaveEffects, LeadTo, HasStep, posted_changes};
 
 /// A change of any kind, in a record or in a snapshot, that applies to what is kept and does this to the opened state,
@@ -51,6 +51,12 @@ pub fn a_fresh_store_is_opened()
 pub fn opened_states_are_sound()
     ensures rising { (masters : List (List ℕ)) (kept : Kept) (s : State) → Opened masters kept s → IsRising kept.state → IsRising s }
     ensures payloads { (masters : List (List ℕ)) (kept : Kept) (s : State) → Opened masters kept s → AllByRecursion HasFittingPayload s.secrets }
+{}
+
+/// A secret that is found in what is kept is found in the opened state, with its payload opened, and one that isn't is not.
+pub fn a_secret_is_found_opened()
+    ensures there { (masters : List (List ℕ)) (kept : Kept) (s : State) → Opened masters kept s → (id : Id) (sealed : SecretRow) → secret_of id kept.state.secrets ≡ Some sealed → IsFoundOpened masters kept.keys id sealed s.secrets }
+    ensures nowhere { (masters : List (List ℕ)) (kept : Kept) (s : State) → Opened masters kept s → (id : Id) → secret_of id kept.state.secrets ≡ None → secret_of id s.secrets ≡ None }
 {}
 
 /// To the effects of some operations on a secret of the opened state there is a step that has them: it is deleted, gets
