@@ -1,5 +1,5 @@
 -- A search by halves finds what a search from the front finds.
-use Rattle.std.proofs.Common.{IfSome, ◌&&◌, ◌+◌, ◌-◌, ◌≡◌, ℕ, suc, ◌<◌, ◌≤◌, Bool, true, false, cond, ltb, List, [], ◌∷◌, ◌++◌, map, length, get_or, Option, Some, None, refl, sym, ap, subst, ◌∙◌, arith, inl, inr}
+use Rattle.std.proofs.Common.{◌&&◌, ◌+◌, ◌-◌, ◌≡◌, ℕ, suc, ◌<◌, ◌≤◌, Bool, true, false, cond, ltb, List, [], ◌∷◌, ◌++◌, map, length, get_or, Some, None, refl, sym, ap, subst, ◌∙◌, arith, inl, inr}
 use Prim.Native.Nat.{zero}
 use Rattle.std.specs.Prelude.{find, slice_get, nat_lt}
 use Rattle.std.specs.Global.{Vec}

@@ -1,5 +1,5 @@
 -- A store's tag stays the same.
-use Rattle.std.proofs.Common.{◌≡◌, ℕ, List, [], ◌∷◌, Some, refl, sym, ap, subst, ◌∙◌}
+use Rattle.std.proofs.Common.{◌≡◌, ℕ, List, [], ◌∷◌, Some, sym, ap, ◌∙◌}
 use Rattle.kms_record.specs.declared.change.Change.{Change}
 use Rattle.kms_kept.specs.Kept.{Kept, Part, Records, Base, applies, changed, after_change, after_changes, after_step, after_record, kept_first}
 use Rattle.kms_record.proofs.Codec.{bind_some, passed, some_is}

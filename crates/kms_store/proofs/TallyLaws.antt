@@ -1,12 +1,12 @@
 -- Entries by key, when numbers come and go.
-use Rattle.std.proofs.Common.{◌≡◌, ℕ, suc, ◌+◌, ◌<◌, ◌≤◌, Bool, true, false, cond, ltb, List, [], ◌∷◌, length, get_or, set, refl, sym, ap, subst, ◌∙◌, arith, inl, inr}
+use Rattle.std.proofs.Common.{◌≡◌, ℕ, suc, ◌+◌, ◌<◌, ◌≤◌, Bool, true, false, cond, ltb, List, [], ◌∷◌, length, get_or, set, refl, sym, subst, ◌∙◌, arith, inl, inr}
 use Prim.Native.Nat.{zero}
-use Rattle.std.specs.List.{AllByRecursion, insert, remove, sum_by}
+use Rattle.std.specs.List.{AllByRecursion, insert, remove}
 use Rattle.std.specs.List.Sorted.{IsPartitionedBy, IsPartitionPoint}
-use Rattle.std.proofs.lemmas.Bool.{cases_Bool, false≢true, false_from_ne_true, ltb-true, ltb-false}
+use Rattle.std.proofs.lemmas.Bool.{cases_Bool, false_from_ne_true, ltb-true, ltb-false}
 use Rattle.std.proofs.lemmas.List.Sums.{sum_by-cons, sum_by-set, sum_by-insert, sum_by-remove}
 use Rattle.kms_store.specs.IndexKey.{IsOrder}
-use Rattle.kms_store.specs.Tally.{number_at, number_in, Ascend, StandsAt, GoesAt}
+use Rattle.kms_store.specs.Tally.{number_at, number_in, Ascend, GoesAt}
 use Rattle.kms_store.specs.declared.tally.Entry.{Entry}
 
 module _ {K : Type 0} (equal below : K → K → Bool) (order : IsOrder equal below) where

@@ -1,5 +1,5 @@
 -- Where a snapshot's walk stands.
-use Rattle.std.specs.Prelude.{◌≡◌, ◌≤◌, ℕ, List, ◌++◌, drop, length}
+use Rattle.std.specs.Prelude.{◌≡◌, ◌≤◌, ◌++◌, drop, length}
 use Rattle.kms_store.specs.Snapshot.{Walked, snapshot_after}
 use Rattle.kms_store.specs.declared.snapshot.SnapshotWalk.TheInside.{Inside}
 

@@ -1,4 +1,4 @@
-use Rattle.std.proofs.Common.{◌≡◌, List, get_or, set, ap, sym, subst, ◌∙◌, ◌∷◌}
+use Rattle.std.proofs.Common.{◌≡◌, List, get_or, set, ap, sym, subst, ◌∙◌}
 use Rattle.kms_world.specs.Effect.{with_metadata}
 use Rattle.kms_world.specs.declared.secret.SecretRow.{SecretRow}
 use Rattle.kms_store.specs.Table.{Tabular}

@@ -1,4 +1,4 @@
-use Rattle.std.proofs.Common.{◌≡◌, List, get_or, set, ap, sym, subst, ◌∙◌, ◌∷◌}
+use Rattle.std.proofs.Common.{◌≡◌, List, get_or, set, ap, sym, subst, ◌∙◌}
 use Rattle.kms_world.specs.Effect.{with_payload}
 use Rattle.kms_kept.specs.Snapshot.{sealed}
 use Rattle.kms_world.specs.declared.secret.SecretRow.{SecretRow}

@@ -1,9 +1,8 @@
-use Rattle.std.proofs.Common.{◌≡◌, ◌∙◌, List, map, ap, subst, sym, arith}
+use Rattle.std.proofs.Common.{◌≡◌, ◌∙◌, map, ap, subst, sym, arith}
 use Rattle.std.proofs.lemmas.List.{with_items_is}
 use Rattle.std.specs.Vec.{with_items}
 use Rattle.kms_store.specs.Keyed.{lowered_entry}
 use Rattle.kms_store.specs.Tally.{Ascend}
-use Rattle.kms_store.specs.declared.tally.Entry.{Entry}
 use Rattle.kms_store.proofs.KeyedLaws.{ascend_lowered, numbers_left}
 use Rattle.kms_store.proofs.places.drop_place.Goals as goal
 

@@ -1,4 +1,4 @@
-use Rattle.std.proofs.Common.{◌≡◌, ltb, map, arith, rules, ap, sym, subst, ◌∙◌}
+use Rattle.std.proofs.Common.{ltb, map, arith, rules, ap, sym, subst, ◌∙◌}
 use Rattle.kms_world.specs.declared.id.Id.{Id}
 use Rattle.std.proofs.lemmas.List.{get_or_default, map-id}
 use Rattle.std.proofs.lemmas.List.Sorted.{IsPartitionPoint-from_clause, IsPartitionedBy-ltb}

@@ -1,4 +1,4 @@
-use Rattle.std.proofs.Common.{◌≡◌, ◌∙◌, ℕ, List, sym, ap, subst, arith}
+use Rattle.std.proofs.Common.{◌≡◌, ◌∙◌, List, sym, ap, subst, arith}
 use Rattle.kms_store.specs.Tally.{number_in, Ascend, StandsAt, GoesAt}
 use Rattle.kms_store.specs.declared.tally.Entry.{Entry}
 use Rattle.kms_store.proofs.TallyLaws.{rows_there, ascend_set, ascend_insert}

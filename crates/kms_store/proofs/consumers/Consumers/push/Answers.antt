@@ -1,13 +1,8 @@
-use Rattle.std.proofs.Common.{◌≡◌, ◌∙◌, ◌+◌, ◌-◌, ◌<◌, ◌≤◌, ◌^◌, ℕ, Bool, cond, List, length, ap, subst, sym, arith}
-use Rattle.std.specs.Prelude.{filter}
-use Rattle.kms_world.specs.Effect.{drop_rows, is_consumer}
+use Rattle.std.proofs.Common.{◌∙◌, ◌+◌, ◌-◌, ◌<◌, ◌^◌, ℕ, cond, length, ap, subst, sym, arith}
 use Rattle.kms_world.specs.Id.{is_id}
-use Rattle.kms_world.specs.declared.id.Id.{Id}
 use Rattle.kms_world.specs.declared.container.ConsumerRow.{ConsumerRow}
 use Rattle.kms_store.specs.Consumers.{count_on}
 use Rattle.kms_store.specs.Table.{Tabular}
-use Rattle.kms_store.proofs.ConsumerLaws.{fewer_pass, on_container}
-use Rattle.kms_store.proofs.ConsumersLaws.{none_any, none_dropped, counts_left}
 use Rattle.kms_store.proofs.CountLaws.{count_push, counted_few}
 use Rattle.kms_store.proofs.consumers.Consumers.push.Goals as goal
 

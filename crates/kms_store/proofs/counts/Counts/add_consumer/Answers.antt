@@ -1,7 +1,6 @@
-use Rattle.std.proofs.Common.{◌≡◌, ◌∙◌, ◌+◌, ℕ, Bool, Option, Some, None, List, [], ◌∷◌, ◌++◌, cond, length, sym, ap, arith}
+use Rattle.std.proofs.Common.{◌≡◌, ◌∙◌, ◌+◌, ℕ, Bool, Option, Some, None, [], ◌∷◌, ◌++◌, cond, length, sym, ap, arith}
 use Rattle.std.specs.Prelude.{filter, option_copied}
 use Rattle.std.specs.Str.{bytes_eq}
-use Rattle.kms_world.specs.Id.{id_at}
 use Rattle.kms_world.specs.LookUp.{container_of}
 use Rattle.kms_world.specs.declared.id.Id.{Id}
 use Rattle.kms_world.specs.declared.container.ContainerRow.{ContainerRow}

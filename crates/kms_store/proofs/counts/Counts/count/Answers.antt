@@ -40,14 +40,14 @@ returns-in-AclPut-clause-counted c =
     let s = (kept_in c.args.rows.now).state in
     let counted = c.requires.counted in
     subst (λ (change : Change). AreCounted c.args.self.now (state_changed change s)) (sym c.in-AclPut.is)
-        (record { secrets = counted.secrets; containers = counted.containers; orders = counted.orders; consumers = counted.consumers })
+    (record { secrets = counted.secrets; containers = counted.containers; orders = counted.orders; consumers = counted.consumers })
 
 pub returns-in-AclDropped-clause-counted : goal.returns-in-AclDropped-clause-counted
 returns-in-AclDropped-clause-counted c =
     let s = (kept_in c.args.rows.now).state in
     let counted = c.requires.counted in
     subst (λ (change : Change). AreCounted c.args.self.now (state_changed change s)) (sym c.in-AclDropped.is)
-        (record { secrets = counted.secrets; containers = counted.containers; orders = counted.orders; consumers = counted.consumers })
+    (record { secrets = counted.secrets; containers = counted.containers; orders = counted.orders; consumers = counted.consumers })
 
 quota_counted : (c : Counts) (project : List ℕ) (limits : Option QuotaLimits) (s : State) → AreCounted c s → AreCounted c (after_effect (quota_effect project limits) s)
 quota_counted c project None s counted = record { secrets = counted.secrets; containers = counted.containers; orders = counted.orders; consumers = counted.consumers }

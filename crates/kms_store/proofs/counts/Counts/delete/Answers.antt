@@ -1,10 +1,8 @@
-use Rattle.std.proofs.Common.{◌≡◌, ◌∙◌, List, ap, sym, subst}
-use Rattle.std.specs.Prelude.{length, filter}
+use Rattle.std.proofs.Common.{◌∙◌, sym, subst}
 use Rattle.kms_world.specs.Effect.{after_effect}
 use Rattle.kms_world.specs.Effect as effects
 use Rattle.kms_world.specs.Id.{is_id}
 use Rattle.kms_world.specs.declared.id.Id.{Id}
-use Rattle.kms_world.specs.declared.container.ConsumerRow.{ConsumerRow}
 use Rattle.kms_store.specs.Counts.{AreCounted}
 use Rattle.kms_store.specs.Rows.{kept_in}
 use Rattle.kms_store.specs.declared.counts.Counts.{Counts}

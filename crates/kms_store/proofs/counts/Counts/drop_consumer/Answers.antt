@@ -1,4 +1,4 @@
-use Rattle.std.proofs.Common.{◌≡◌, ◌∙◌, ◌≤◌, ℕ, Bool, List, ap, sym, subst}
+use Rattle.std.proofs.Common.{◌≤◌, ℕ, Bool, sym, subst}
 use Rattle.std.specs.Prelude.{length, filter}
 use Rattle.kms_world.specs.Effect.{after_effect, is_consumer}
 use Rattle.kms_world.specs.Effect as effects

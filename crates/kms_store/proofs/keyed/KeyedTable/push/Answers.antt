@@ -1,4 +1,4 @@
-use Rattle.std.proofs.Common.{◌≡◌, ◌∙◌, ◌+◌, ℕ, Bool, List, cond, length, ap, subst, sym, arith}
+use Rattle.std.proofs.Common.{◌≡◌, ◌∙◌, ◌+◌, Bool, cond, ap, subst, sym, arith}
 use Rattle.kms_store.specs.Keyed.{nth}
 use Rattle.kms_store.specs.Table.{Tabular}
 use Rattle.kms_store.specs.Tally.{number_in}

@@ -1,6 +1,5 @@
-use Rattle.std.proofs.Common.{◌≡◌, ◌∙◌, ◌-◌, ◌+◌, ℕ, Bool, List, map, Some, get_or, length, set, suc, ap, subst, sym, arith, refl}
+use Rattle.std.proofs.Common.{◌≡◌, ◌∙◌, ◌-◌, Bool, suc, ap, sym, arith}
 use Rattle.kms_store.specs.Keyed.{nth}
-use Rattle.kms_store.specs.Table.{Tabular}
 use Rattle.kms_store.proofs.KeyedLaws.{put_new, put_nth}
 use Rattle.kms_store.proofs.keyed.KeyedTable.put.Goals as goal
 

@@ -1,4 +1,4 @@
-use Rattle.std.proofs.Common.{rules, ◌≡◌, ◌∙◌, ◌-◌, ◌+◌, ◌<◌, ℕ, Bool, List, map, Some, get_or, length, set, suc, ap, subst, sym, arith, refl}
+use Rattle.std.proofs.Common.{rules, ◌≡◌, ◌∙◌, ◌-◌, ◌<◌, Bool, length, suc, subst, sym, arith}
 use Rattle.kms_store.specs.Keyed.{nth}
 use Rattle.kms_store.specs.Table.{Tabular}
 use Rattle.kms_store.proofs.KeyedLaws.{within, still_placed}

@@ -1,5 +1,5 @@
-use Rattle.std.proofs.Common.{◌≡◌, Bool, List, Some, map, sym, ap, subst, arith, ◌∙◌}
-use Rattle.std.specs.List.{position, remove}
+use Rattle.std.proofs.Common.{Bool, List, map, sym, ap, arith, ◌∙◌}
+use Rattle.std.specs.List.{remove}
 use Rattle.kms_world.specs.Id.{is_id}
 use Rattle.kms_world.specs.declared.id.Id.{Id}
 use Rattle.kms_store.specs.Table.{Tabular}

@@ -1,7 +1,6 @@
-use Rattle.std.proofs.Common.{◌≡◌, List, ap, sym, subst, ◌∙◌}
+use Rattle.std.proofs.Common.{ap, ◌∙◌}
 use Rattle.std.specs.List.{position}
 use Rattle.kms_world.specs.Id.{is_id}
-use Rattle.kms_world.specs.declared.id.Id.{Id}
 use Rattle.kms_store.specs.Table.{Tabular}
 use Rattle.kms_store.proofs.TableLaws.{position_map}
 use Rattle.kms_store.proofs.table.Table.find_at.Goals as goal

@@ -1,5 +1,4 @@
 use Rattle.std.proofs.Common.{◌≡◌, Bool, List, Some, get_or, sym, ap, subst, ◌∙◌}
-use Rattle.std.specs.List.{position}
 use Rattle.kms_world.specs.Id.{is_id}
 use Rattle.kms_store.specs.Table.{Tabular}
 use Rattle.kms_store.proofs.TableLaws.{find_there, find_nowhere}

@@ -1,4 +1,4 @@
-use Rattle.std.proofs.Common.{◌≡◌, Bool, Some, None, sym, ap, ◌∙◌}
+use Rattle.std.proofs.Common.{Bool, sym, ap, ◌∙◌}
 use Rattle.std.specs.List.{position}
 use Rattle.kms_world.specs.Id.{is_id}
 use Rattle.kms_world.specs.declared.id.Id.{Id}
