@@ -1,2 +1,3 @@
 pub mod AskLaws
+pub mod PayloadReading
 pub mod SecretLaws

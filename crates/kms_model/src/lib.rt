@@ -4,5 +4,6 @@
 
 mod event;
 pub mod laws;
+pub mod payload_laws;
 
 pub use event::{Event, Mark};
