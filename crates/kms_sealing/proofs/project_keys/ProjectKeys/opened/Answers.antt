@@ -11,7 +11,7 @@ returns-in-Err-clause-err c = λ apart opens.
     let rows = c.args.tables.now.kept.keys in
     let secret = c.args.secret.now in
     let is : option_map token_alone secret.payload ≡ Some c.in-Some.sealed = sym (ap (λ (r : SecretRow). r.payload) c.row-row.ensures) ∙ c.in-Some.is in
-    let seen = seen_as secret.project rows secret.payload c.number-number.result c.in-Some.sealed c.requires.under c.number-number.ensures is in
+    let seen = seen_as secret.project rows secret.payload c.number-number.result c.in-Some.sealed c.requires.under c.number-number.ensures.token is in
     let o = opens_under masters rows secret.project secret.payload opens.0 c.number-number.result c.in-Some.sealed seen opens.1 in
     c.in-Err.ensures.err apart o.0
     (under_as masters rows c.keys.result.now secret.project c.row-row.result.now.project c.in-Some.sealed.bytes c.as_slice-token.result.now c.number-number.result o.0 (sym c.keys.ensures) (sym (ap (λ (r : SecretRow). r.project) c.row-row.ensures)) (sym c.as_slice-token.ensures) o.1)
