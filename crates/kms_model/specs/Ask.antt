@@ -5,18 +5,51 @@ use Rattle.kms_world.specs.Effect.{Effect, after_effects}
 use Rattle.kms_world.specs.State.{State}
 use Rattle.kms_world.specs.declared.caller.Caller.{Caller}
 use Rattle.kms_world.specs.declared.operation.Op.{Op}
-use Rattle.kms_world.specs.declared.operation.Op.TheVariants.{PostSecret, GetSecret}
+use Rattle.kms_world.specs.declared.operation.Op.TheVariants.{ListSecrets, PostSecret, GetSecret, PutPayload, DeleteSecret, GetPayload, GetMetadata, PutMetadata, PostPair, GetPair, PutPair, DeletePair, GetAcl, PutAcl, PatchAcl, DeleteAcl, ListContainers, PostContainer, GetContainer, DeleteContainer, PostMember, DeleteMember, ListConsumers, PostConsumer, DeleteConsumer, ListOrders, PostOrder, GetOrder, DeleteOrder, GetQuotas, ListQuotas, GetProjectQuotas, PutProjectQuotas, DeleteProjectQuotas}
 use Rattle.kms_world.specs.declared.answer.Answer.{Answer}
 use Rattle.kms_world.specs.declared.refusal.Refusal.{Refusal}
 use Rattle.kms_world.specs.declared.refusal.Refusal.TheVariants.{NoRoute}
+use Rattle.kms_model.specs.AccessLists.{acl_shown, acl_put, acl_patched, acl_deleted}
 use Rattle.kms_model.specs.Done.{Done, answer_by, effects_by, has_some}
-use Rattle.kms_model.specs.Secrets.{posted, shown}
+use Rattle.kms_model.specs.Metadata.{metadata_shown, metadata_put, pair_posted, pair_shown, pair_put, pair_deleted}
+use Rattle.kms_model.specs.Secrets.{posted, shown, deleted}
 
--- an operation without a case of its own isn't served
+-- an operation that isn't served is refused as a path that isn't there
 abbrev pub asked : State → Caller → Op → ℕ → Result Done Refusal
+asked s caller (ListSecrets query) t = Err NoRoute
 asked s caller (PostSecret body) t = posted s caller body t
-asked s caller (GetSecret id accept) t = shown s caller id t
-asked s caller op t = Err NoRoute
+asked s caller (GetSecret id accept) t = shown s caller id accept t
+asked s caller (PutPayload id put body) t = Err NoRoute
+asked s caller (DeleteSecret id) t = deleted s caller id
+asked s caller (GetPayload id accept) t = Err NoRoute
+asked s caller (GetMetadata id) t = metadata_shown s caller id t
+asked s caller (PutMetadata id body) t = metadata_put s caller id body t
+asked s caller (PostPair id body) t = pair_posted s caller id body t
+asked s caller (GetPair id key) t = pair_shown s caller id key t
+asked s caller (PutPair id key body) t = pair_put s caller id key body t
+asked s caller (DeletePair id key) t = pair_deleted s caller id key t
+asked s caller (GetAcl kind id) t = acl_shown s caller kind id t
+asked s caller (PutAcl kind id body) t = acl_put s caller kind id body t
+asked s caller (PatchAcl kind id body) t = acl_patched s caller kind id body t
+asked s caller (DeleteAcl kind id) t = acl_deleted s caller kind id t
+asked s caller (ListContainers query) t = Err NoRoute
+asked s caller (PostContainer body) t = Err NoRoute
+asked s caller (GetContainer id) t = Err NoRoute
+asked s caller (DeleteContainer id) t = Err NoRoute
+asked s caller (PostMember id body) t = Err NoRoute
+asked s caller (DeleteMember id body) t = Err NoRoute
+asked s caller (ListConsumers id query) t = Err NoRoute
+asked s caller (PostConsumer id body) t = Err NoRoute
+asked s caller (DeleteConsumer id body) t = Err NoRoute
+asked s caller (ListOrders query) t = Err NoRoute
+asked s caller (PostOrder body) t = Err NoRoute
+asked s caller (GetOrder id) t = Err NoRoute
+asked s caller (DeleteOrder id) t = Err NoRoute
+asked s caller GetQuotas t = Err NoRoute
+asked s caller (ListQuotas query) t = Err NoRoute
+asked s caller (GetProjectQuotas project) t = Err NoRoute
+asked s caller (PutProjectQuotas project body) t = Err NoRoute
+asked s caller (DeleteProjectQuotas project) t = Err NoRoute
 
 abbrev pub answer_to : State → Caller → Op → ℕ → Answer
 answer_to s caller op t = answer_by (asked s caller op t)

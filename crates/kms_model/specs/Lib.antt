@@ -1,5 +1,13 @@
+pub mod Accept
+pub mod AccessLists
 pub mod Ask
+pub mod Consumers
+pub mod Containers
+pub mod Counts
 pub mod Done
+pub mod Metadata
 pub mod Payloads
+pub mod Permission
+pub mod Quotas
 pub mod Run
 pub mod Secrets

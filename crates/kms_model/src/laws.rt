@@ -1,16 +1,22 @@
 //! Laws of the plain key manager, as functions that do nothing.
-ghost use Rattle.std.specs.Prelude.{◌≡◌, ◌<◌, ◌≤◌, ◌+◌, ◌++◌, ◌∷◌, [], ℕ, ◌^◌, List, Some, None, Ok, Err, false, length};
+ghost use Rattle.std.specs.Prelude.{◌≡◌, ◌<◌, ◌≤◌, ◌+◌, ◌++◌, ◌∷◌, [], ℕ, ◌^◌, List, Some, None, Ok, Err, false};
 ghost use Rattle.kms_model.specs.Ask.{answer_to, asked, state_after, stores};
 ghost use Rattle.kms_model.specs.Done.{Done};
-ghost use Rattle.kms_model.specs.Secrets.{new_secret, other_field, posted, secret_at};
+ghost use Rattle.kms_model.specs.Secrets.{live_secret, new_secret, posted, secret_for, secret_target};
+ghost use Rattle.kms_policy.specs.Policy.{decision};
+ghost use Rattle.kms_secret.specs.Secret.{checked_secret};
+ghost use Rattle.kms_secret.specs.declared.secret.NewSecret.{NewSecret};
 ghost use Rattle.kms_world.specs.Effect.{after_effects};
 ghost use Rattle.kms_world.specs.State.{State};
+ghost use Rattle.kms_world.specs.declared.action.Action.{Action};
+ghost use Rattle.kms_world.specs.declared.action.Rule.{Rule};
 ghost use Rattle.kms_world.specs.declared.answer.Answer.TheVariants as answers;
 ghost use Rattle.kms_world.specs.declared.body.SecretBody.{SecretBody};
 ghost use Rattle.kms_world.specs.declared.caller.Caller.{Caller};
 ghost use Rattle.kms_world.specs.declared.id.Id.{Id};
 ghost use Rattle.kms_world.specs.declared.operation.Op.{Op};
 ghost use Rattle.kms_world.specs.declared.refusal.Refusal.{Refusal};
+ghost use Rattle.kms_world.specs.declared.refusal.Refusal.TheVariants.{NoObject, Denied};
 ghost use Rattle.kms_world.specs.declared.secret.SecretRow.{SecretRow};
 
 /// What is refused is answered so, changes nothing and stores nothing.
@@ -30,19 +36,25 @@ pub fn ids_stay_given()
     ensures { (s : State) (caller : Caller) (op : Op) (t : ℕ) → s.ids ≤ (state_after s caller op t).ids }
 {}
 
-/// A secret is shown under its id, to its own project alone, and before it expires.
-pub fn a_secret_is_shown_to_its_project_alone()
-    ensures id { (s : State) (caller : Caller) (id : Id) (t : ℕ) (row : SecretRow) → secret_at s caller (Some id) t ≡ Some row → row.id ≡ id }
-    ensures project { (s : State) (caller : Caller) (id : Id) (t : ℕ) (row : SecretRow) → secret_at s caller (Some id) t ≡ Some row → row.project ≡ caller.project }
-    ensures live { (s : State) (caller : Caller) (id : Id) (t : ℕ) (row : SecretRow) (expiration : ℕ) → secret_at s caller (Some id) t ≡ Some row → row.expiration ≡ Some expiration → t < expiration }
+/// A secret that isn't there is absent for every caller; one that is there is denied where the policy denies the action on it,
+/// and only there.
+pub fn absence_comes_before_denial()
+    ensures absent { (s : State) (caller : Caller) (action : Action) → secret_for s caller action None ≡ Err NoObject }
+    ensures denied { (s : State) (caller : Caller) (action : Action) (row : SecretRow) (rule : Rule) → decision caller action (Some (secret_target s row)) ≡ Err rule → secret_for s caller action (Some row) ≡ Err (Denied rule) }
+    ensures granted { (s : State) (caller : Caller) (action : Action) (row : SecretRow) → decision caller action (Some (secret_target s row)) ≡ Ok tt → secret_for s caller action (Some row) ≡ Ok row }
 {}
 
-/// A secret that is posted goes last, under an id that was left, which is given with it; its name has at most 255 bytes, and no other field was there.
+/// A secret is found under its id, and before it expires.
+pub fn a_secret_is_found_before_it_expires()
+    ensures id { (s : State) (id : Id) (t : ℕ) (row : SecretRow) → live_secret s (Some id) t ≡ Some row → row.id ≡ id }
+    ensures live { (s : State) (id : Id) (t : ℕ) (row : SecretRow) (expiration : ℕ) → live_secret s (Some id) t ≡ Some row → row.expiration ≡ Some expiration → t < expiration }
+{}
+
+/// A secret that is posted has what its body asks for, and no payload; it goes last, under an id that was left, which is given
+/// with it.
 pub fn a_posted_secret_takes_the_next_id()
     ensures last { (s : State) (caller : Caller) (body : SecretBody) (t : ℕ) (done : Done) → posted s caller (Ok body) t ≡ Ok done
-        → (after_effects done.effects s).secrets ≡ s.secrets ++ new_secret s caller body t ∷ [] }
+        → (new : NewSecret) × (checked_secret body t ≡ Ok new) × (new.payload ≡ None) × ((after_effects done.effects s).secrets ≡ s.secrets ++ new_secret s caller new t ∷ []) }
     ensures ids { (s : State) (caller : Caller) (body : SecretBody) (t : ℕ) (done : Done) → posted s caller (Ok body) t ≡ Ok done → (after_effects done.effects s).ids ≡ s.ids + 1 }
     ensures left { (s : State) (caller : Caller) (body : SecretBody) (t : ℕ) (done : Done) → posted s caller (Ok body) t ≡ Ok done → s.ids < 2 ^ 62 }
-    ensures alone { (s : State) (caller : Caller) (body : SecretBody) (t : ℕ) (done : Done) → posted s caller (Ok body) t ≡ Ok done → other_field body ≡ None }
-    ensures short { (s : State) (caller : Caller) (body : SecretBody) (t : ℕ) (done : Done) (name : List ℕ) → posted s caller (Ok body) t ≡ Ok done → body.name ≡ Some name → length name ≤ 255 }
 {}

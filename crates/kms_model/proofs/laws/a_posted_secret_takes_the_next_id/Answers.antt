@@ -1,17 +1,11 @@
-use Rattle.kms_model.proofs.SecretLaws.{is_posted, name_fits}
+use Rattle.kms_model.proofs.SecretLaws.{is_posted}
 use Rattle.kms_model.proofs.laws.a_posted_secret_takes_the_next_id.Goals as goal
 
 pub returns-clause-last : goal.returns-clause-last
-returns-clause-last c = λ s caller body t done is. (is_posted s caller body t done is).last
+returns-clause-last c = λ s caller body t done is. let p = is_posted s caller body t done is in (p.new, p.checked, p.bare, p.last)
 
 pub returns-clause-ids : goal.returns-clause-ids
 returns-clause-ids c = λ s caller body t done is. (is_posted s caller body t done is).ids
 
 pub returns-clause-left : goal.returns-clause-left
 returns-clause-left c = λ s caller body t done is. (is_posted s caller body t done is).left
-
-pub returns-clause-short : goal.returns-clause-short
-returns-clause-short c = λ s caller body t done name is given. name_fits body.name name (is_posted s caller body t done is).short given
-
-pub returns-clause-alone : goal.returns-clause-alone
-returns-clause-alone c = λ s caller body t done is. (is_posted s caller body t done is).alone

@@ -1,0 +1,4 @@
+pub mod Change
+pub mod Found
+pub mod Outcome
+pub mod Pairs

@@ -1,0 +1,62 @@
+// The decision of the policy on an operation.
+ghost use Rattle.std.specs.Prelude.{◌≡◌, Some, None, option_map, option_copied};
+ghost use Rattle.kms_policy.specs.Policy.{row_of};
+ghost use Rattle.kms_model.specs.Containers.{container_target};
+ghost use Rattle.kms_model.specs.Permission.{granted};
+ghost use Rattle.kms_model.specs.Secrets.{secret_target};
+ghost use Rattle.kms_world.specs.Checked.{IsUnlessNoMemory};
+
+use kms_policy::{Target, decide};
+use kms_store::Tables;
+use kms_world::{Action, Caller, CheckFault, ContainerRow, Refusal, SecretRow};
+
+// The policy grants the action on this row, None where it is about no row.
+fn granted_on(caller: &Caller, action: Action, target: Option<&Target>) -> Result<(), CheckFault>
+    ensures { IsUnlessNoMemory result (granted caller.now action (option_map row_of (option_copied target.entry))) }
+{
+    match decide(caller, action, target) {
+        Ok(()) => Ok(()),
+        Err(rule) => Err(CheckFault::Refused(Refusal::Denied(rule))),
+    }
+}
+
+// The policy grants an action that is about no row.
+pub fn granted(caller: &Caller, action: Action) -> Result<(), CheckFault>
+    ensures { IsUnlessNoMemory result (granted caller.now action None) }
+{
+    granted_on(caller, action, None)
+}
+
+// The policy grants the action on the secret.
+pub fn granted_on_secret(
+    rows: &Tables,
+    caller: &Caller,
+    action: Action,
+    row: &SecretRow,
+) -> Result<(), CheckFault>
+    ensures { IsUnlessNoMemory result (granted caller.now action (Some (secret_target rows.now.kept.state row.now))) }
+{
+    let target = Target {
+        project: row.project,
+        creator: row.creator,
+        acl: rows.acl(row.id),
+    };
+    granted_on(caller, action, Some(&target))
+}
+
+// The policy grants the action on the container.
+pub fn granted_on_container(
+    rows: &Tables,
+    caller: &Caller,
+    action: Action,
+    row: &ContainerRow,
+) -> Result<(), CheckFault>
+    ensures { IsUnlessNoMemory result (granted caller.now action (Some (container_target rows.now.kept.state row.now))) }
+{
+    let target = Target {
+        project: row.project,
+        creator: row.creator,
+        acl: rows.acl(row.id),
+    };
+    granted_on(caller, action, Some(&target))
+}
