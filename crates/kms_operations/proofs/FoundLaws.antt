@@ -1,6 +1,8 @@
 -- Rows that are found in what is kept.
+use denote.Ref.{Bor}
 use Rattle.std.proofs.Common.{◌≡◌, ℕ, ◌<◌, Bool, true, false, List, [], ◌∷◌, Option, Some, None, cond, refl, sym, ap, subst}
-use Rattle.std.specs.Prelude.{find, IfSome, is_some, option_map}
+use Rattle.std.specs.Prelude.{find, IfSome, is_some, option_copied, option_map}
+use Rattle.std.specs.Option.{ForSome}
 use Rattle.std.specs.List.{AllByRecursion, list_any}
 use Rattle.std.proofs.lemmas.Bool.{or_left, or_right}
 use Rattle.kms_kept.specs.Kept.{Kept}
@@ -12,7 +14,7 @@ use Rattle.kms_store.specs.KeptSecret.{token_alone, without_number}
 use Rattle.kms_world.specs.Id.{id_at, is_id}
 use Rattle.kms_world.specs.LookUp.{secret_of, container_of, acl_of}
 use Rattle.kms_world.specs.Secret.{attributes_of, without_bytes}
-use Rattle.kms_world.specs.Times.{IsTime, IsTimely, IsTimelyAcl, IsTimelyContainer, end_of_times}
+use Rattle.kms_world.specs.Times.{IsTime, IsTimely, IsTimelyAcl, IsTimelyContainer, IsTimelyIfAny, end_of_times}
 use Rattle.kms_world.specs.declared.acl.AclRow.{AclRow}
 use Rattle.kms_world.specs.declared.container.ContainerRow.{ContainerRow}
 use Rattle.kms_world.specs.declared.id.Id.{Id}
@@ -94,3 +96,29 @@ kept_acl kept target row sound found =
 
 pub timely_acl : (tag : ℕ) (row : AclRow) → IsAcl tag row → IsTimelyAcl row
 timely_acl tag row is = let range = is.grammar.0 in record { created = range.created; updated = range.updated }
+
+-- ---- what look-ups find
+
+pub secret_if_any : (kept : Kept) (id : Id) (found : Option SecretRow) → IsSound kept → found ≡ secret_of id kept.state.secrets → IfSome found (IsKeptSecret kept)
+secret_if_any kept id None sound is = tt
+secret_if_any kept id (Some row) sound is = kept_secret kept id row sound is
+
+pub container_if_any : (kept : Kept) (id : Id) (found : Option ContainerRow) → IsSound kept → found ≡ container_of id kept.state.containers → IfSome found (IsKeptContainer kept)
+container_if_any kept id None sound is = tt
+container_if_any kept id (Some row) sound is = kept_container kept id row sound is
+
+pub acl_if_any : (kept : Kept) (target : Id) (found : Option AclRow) → IsSound kept → found ≡ acl_of target kept.state.acls → IfSome found (IsAcl kept.state.tag)
+acl_if_any kept target None sound is = tt
+acl_if_any kept target (Some row) sound is = kept_acl kept target row sound is
+
+some_same : {X : Type 0} (x y : X) → (let o : Option X = Some x in let p : Option X = Some y in o ≡ p) → x ≡ y
+some_same x y is = cc
+
+-- what holds of what was found holds of it once it is there
+pub for_found : {X : Type 0} (P : X → Type 0) (found : Option (Bor X)) (x : Bor X) → found ≡ Some x → ForSome (option_copied found) P → P x.now
+for_found {X} P None x e h = absurd cc
+for_found {X} P (Some y) x e h = subst (λ (z : Bor X). P z.now) (some_same y x e) (h y.now refl)
+
+pub timely_if_any : (tag : ℕ) (found : Option AclRow) → IfSome found (IsAcl tag) → IsTimelyIfAny found
+timely_if_any tag None is = tt
+timely_if_any tag (Some row) is = timely_acl tag row is

@@ -1,3 +1,5 @@
+pub mod AclLaws
 pub mod ElementLaws
 pub mod FitLaws
 pub mod FoundLaws
+pub mod PairLaws

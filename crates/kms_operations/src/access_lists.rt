@@ -16,7 +16,9 @@ use crate::secrets::{live_secret, secret_for};
 use kms_policy::{AclChange, check_acl};
 use kms_record::{AclPut, Change};
 use kms_store::Tables;
-use kms_world::{AclBody, AclKind, AclRow, Action, Answer, Caller, CheckFault, Id, Link, Names, Refusal};
+use kms_world::{
+    AclBody, AclKind, AclRow, Action, Answer, Caller, CheckFault, Id, Link, Names, Refusal,
+};
 use std::alloc::Global;
 
 // What the access list is of, if it is there, and then if the policy grants the action on it.
@@ -132,13 +134,7 @@ fn access_or(access: Option<bool>, other: bool) -> bool
 }
 
 // The change that puts the whole list anew.
-fn put_of(
-    alloc: Global,
-    target: Id,
-    old: Option<&AclRow>,
-    change: AclChange,
-    moment: u64,
-) -> AclPut
+fn put_of(alloc: Global, target: Id, old: Option<&AclRow>, change: AclChange, moment: u64) -> AclPut
     ensures { result ≡ acl_put_of (spec.list_put target (option_copied old.entry) change moment) }
 {
     AclPut {

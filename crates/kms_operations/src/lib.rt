@@ -8,6 +8,7 @@ mod body;
 mod containers;
 mod count;
 mod metadata;
+mod names;
 mod outcome;
 mod pairs;
 mod permission;

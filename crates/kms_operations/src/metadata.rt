@@ -1,14 +1,13 @@
 // Operations on the metadata of secrets.
-ghost use Rattle.std.specs.Prelude.{◌≡◌, ◌<◌, ◌++◌, ◌∷◌, [], All, IsTrue, IfOk, OnOk, Ok, find, filter, not, option_and_then, option_copied};
+ghost use Rattle.std.specs.Prelude.{◌≡◌, ◌<◌, IfOk, Ok, find, length, nat_lt, option_and_then, option_copied};
 ghost use Rattle.std.specs.Str.{bytes_eq};
 ghost use Rattle.kms_model.specs.Done.{there};
 ghost use Rattle.kms_model.specs.Metadata as spec;
-ghost use Rattle.kms_operations.specs.Found.{Finds, IsKeptSecret};
+ghost use Rattle.kms_operations.specs.Found.{Finds};
 ghost use Rattle.kms_operations.specs.Outcome.{Comes, IsPossible};
 ghost use Rattle.kms_secret.specs.Key.{key_of};
 ghost use Rattle.kms_secret.specs.Metadata.{has_key};
 ghost use Rattle.kms_world.specs.Checked.{IsUnlessNoMemory};
-ghost use Rattle.kms_world.specs.Pairs.{is_below};
 
 use crate::Outcome;
 use crate::body::given;
@@ -19,7 +18,8 @@ use kms_record::{Change, MetadataPut};
 use kms_secret::{check_metadata, check_pair, read_key};
 use kms_store::Tables;
 use kms_world::{
-    Action, Answer, Caller, CheckFault, Field, Id, Link, MetadataBody, PairBody, Pairs, Refusal, Text,
+    Action, Answer, Caller, CheckFault, Field, Id, Link, MetadataBody, PairBody, Pairs, Refusal,
+    Text,
 };
 use std::alloc::Global;
 
@@ -68,10 +68,59 @@ fn has_key(key: &Text, pairs: &[(Text, Text)]) -> bool
     pairs.iter().any(|pair| key.as_str() == pair.0.as_str())
 }
 
+fn has_room(pairs: &[(Text, Text)]) -> bool
+    ensures { result ≡ nat_lt (length pairs.now) 100 }
+{
+    pairs.len() < MOST_PAIRS
+}
+
 fn same_key(a: &Text, b: &Text) -> bool
     ensures { result ≡ bytes_eq a.now b.now }
 {
     a.as_str() == b.as_str()
+}
+
+// One pair more is taken, with this key.
+fn may_add(key: &Text, pairs: &[(Text, Text)]) -> Result<(), CheckFault>
+    ensures { IsUnlessNoMemory result (spec.may_add key.now pairs.now) }
+{
+    if !has_room(pairs) {
+        return Err(CheckFault::Refused(Refusal::BadBody(Field::Metadata)));
+    }
+    if has_key(key, pairs) {
+        return Err(CheckFault::Refused(Refusal::Conflict));
+    }
+    Ok(())
+}
+
+// The pairs with this one, if there is memory.
+fn put_among(alloc: Global, pair: &(Text, Text), pairs: &Pairs) -> Result<Pairs, CheckFault>
+    ensures { IsUnlessNoMemory result (Ok (spec.with_pair pair.now pairs.now)) }
+{
+    match with_pair(alloc, pair, pairs) {
+        Ok(pairs) => Ok(pairs),
+        Err(_) => Err(CheckFault::NoMemory),
+    }
+}
+
+// The pairs but for the one with this key, if there is memory.
+fn others(alloc: Global, key: &Text, pairs: &Pairs) -> Result<Pairs, CheckFault>
+    ensures { IsUnlessNoMemory result (Ok (spec.without_key key.now pairs.now)) }
+{
+    match without_key(alloc, key, pairs) {
+        Ok(pairs) => Ok(pairs),
+        Err(_) => Err(CheckFault::NoMemory),
+    }
+}
+
+// A copy of a pair, if there is memory.
+fn one_copied(pair: &(Text, Text)) -> Result<(Text, Text), CheckFault>
+    ensures { IsUnlessNoMemory result (Ok pair.now) }
+{
+    match copied(pair) {
+        Ok(copy) => Ok(copy),
+        Err(_) => Err(CheckFault::NoMemory),
+    }
 }
 
 // A copy of all pairs.
@@ -148,14 +197,8 @@ pub fn post_pair(
     let secret = secret_for(rows, caller, Action::SecretWrite, found)?;
     let body = given(body)?;
     let pair = check_pair(alloc, &body)?;
-    let old = &secret.row().metadata;
-    if old.as_slice().len() >= MOST_PAIRS {
-        return Err(CheckFault::Refused(Refusal::BadBody(Field::Metadata)));
-    }
-    if has_key(&pair.0, old.as_slice()) {
-        return Err(CheckFault::Refused(Refusal::Conflict));
-    }
-    let pairs = with_pair(alloc, &pair, old)?;
+    may_add(&pair.0, secret.row().metadata.as_slice())?;
+    let pairs = put_among(alloc, &pair, &secret.row().metadata)?;
     Ok(Outcome {
         answer: Answer::Pair {
             status: 201,
@@ -184,7 +227,7 @@ pub fn show_pair(
     let found = live_secret(rows, id, moment);
     let secret = secret_for(rows, caller, Action::SecretGet, found)?;
     let pair = pair_for(alloc, key, secret.row().metadata.as_slice())?;
-    let (key, value) = copied(pair)?;
+    let (key, value) = one_copied(pair)?;
     Ok(Outcome {
         answer: Answer::Pair {
             status: 200,
@@ -216,7 +259,7 @@ pub fn put_pair(
     if !same_key(&pair.0, &old.0) {
         return Err(CheckFault::Refused(Refusal::BadBody(Field::Key)));
     }
-    let pairs = with_pair(alloc, &pair, &secret.row().metadata)?;
+    let pairs = put_among(alloc, &pair, &secret.row().metadata)?;
     Ok(Outcome {
         answer: Answer::Pair {
             status: 200,
@@ -246,7 +289,7 @@ pub fn delete_pair(
     let found = live_secret(rows, id, moment);
     let secret = secret_for(rows, caller, Action::SecretWrite, found)?;
     let pair = pair_for(alloc, key, secret.row().metadata.as_slice())?;
-    let pairs = without_key(alloc, &pair.0, &secret.row().metadata)?;
+    let pairs = others(alloc, &pair.0, &secret.row().metadata)?;
     Ok(Outcome {
         answer: Answer::Empty(204),
         change: Some(Change::MetadataPut(MetadataPut {

@@ -11,13 +11,14 @@ use crate::Outcome;
 use crate::accept::admits;
 use crate::body::given;
 use crate::count::{count_of, has_id};
+use crate::names::names_fit;
 use crate::permission::{granted, granted_on_secret};
 use kms_record::{Change, SecretPut};
-use kms_secret::{NewSecret, check_secret};
+use kms_secret::check_secret;
 use kms_store::{KeptSecret, Tables};
 use kms_world::{
-    Action, Answer, Caller, CheckFault, Field, Id, Link, Media2, Refusal, SecretBody, SecretRow, Text,
-    id_of,
+    Action, Answer, Caller, CheckFault, Field, Id, Link, Media2, Refusal, SecretBody, SecretRow,
+    Text, id_of,
 };
 use std::alloc::Global;
 
@@ -67,16 +68,6 @@ pub fn secret_for<'a>(
     Ok(secret)
 }
 
-// Payloads aren't taken yet.
-fn without_payload(new: &NewSecret) -> Result<(), CheckFault>
-    ensures { IsUnlessNoMemory result (spec.without_payload new.now) }
-{
-    match &new.payload {
-        None => Ok(()),
-        Some(_) => Err(CheckFault::Refused(Refusal::BadBody(Field::Payload))),
-    }
-}
-
 pub fn posted(
     alloc: Global,
     rows: &Tables,
@@ -91,7 +82,10 @@ pub fn posted(
     granted(caller, Action::SecretCreate)?;
     let body = given(body)?;
     let new = check_secret(alloc, &body, moment)?;
-    without_payload(&new)?;
+    // Payloads aren't taken yet.
+    if !new.payload.is_none() {
+        return Err(CheckFault::Refused(Refusal::BadBody(Field::Payload)));
+    }
     if !has_id(rows) {
         return Err(CheckFault::Refused(Refusal::IdsSpent));
     }
@@ -108,8 +102,7 @@ pub fn posted(
         kind: new.kind,
         expiration: new.expiration,
     };
-    // A record has room for each name.
-    prove!(put.project.as_bytes().len() <= 64 && put.creator.as_bytes().len() <= 64);
+    names_fit(caller);
     Ok(Outcome {
         answer: Answer::Link {
             status: 201,

@@ -1,0 +1,27 @@
+use Rattle.std.proofs.Common.{◌≡◌, ◌^◌, true, arith}
+use Rattle.std.proofs.lemmas.Bool.{ltb-true}
+use Rattle.kms_model.specs.Secrets.{has_id}
+use Rattle.kms_secret.proofs.RangeLaws.{secret_in_range}
+use Rattle.kms_operations.proofs.FitLaws.{secret_fits}
+use Rattle.kms_operations.proofs.secrets.posted.Goals as goal
+
+pub returns-clause-possible : goal.returns-clause-possible
+returns-clause-possible c =
+    let new = secret_in_range c.in_ok-body.body c.args.moment c.in_ok-new.new c.in_ok-new.ensures in
+    let left : has_id c.args.rows.now.kept.state ≡ true = cc in
+    let lt = ltb-true c.args.rows.now.kept.state.ids (2 ^ 62) left in
+    record {
+      times = tt;
+      change = secret_fits c.args.rows.now.kept _ (record {
+        id = omega (arith, c.ids.ensures.ids, lt);
+        project = c.names_fit.ensures.project;
+        creator = c.names_fit.ensures.user;
+        created = c.requires.time;
+        updated = c.requires.time;
+        name = new.name;
+        algorithm = new.algorithm;
+        bit_length = new.bit_length;
+        mode = new.mode;
+        expiration = new.expiration;
+      }) c.ids.ensures.ids;
+    }
