@@ -1,6 +1,4 @@
-pub mod PostLaws
-pub mod RouteLaws
+pub mod PrepareLaws
 pub mod SettleLaws
-pub mod ShownLaws
 pub mod StandsLaws
 pub mod StartLaws

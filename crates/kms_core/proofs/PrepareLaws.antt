@@ -1,5 +1,5 @@
 -- The step of an operation's change leads to the state after its effects.
-use Rattle.std.specs.Prelude.{IfOk, Result, Ok, Err, is_some}
+use Rattle.std.specs.Prelude.{IfOk, Result, Ok, Err}
 use Rattle.std.proofs.Common.{◌≡◌, ℕ, ◌≤◌, ◌+◌, ◌*◌, ◌^◌, ◌<◌, true, List, [], ◌∷◌, length, Option, Some, None, refl, sym, ap, subst, ◌∙◌, arith}
 use Rattle.std.specs.Prelude.{sum_by}
 use Rattle.kms_world.specs.Effect.{after_effects}
@@ -11,7 +11,7 @@ use Rattle.kms_record.specs.declared.change.Change.TheVariants.{KeyAdded, KeyRew
 use Rattle.kms_record.specs.Grammar.{IsChangeInRange, IsStepInRange, step_bytes}
 use Rattle.kms_record.specs.Size.{most_bytes}
 use Rattle.kms_record.proofs.SizeLaws.{step_is_short_lem}
-use Rattle.kms_kept.specs.Kept.{Kept, Records, applies, after_step, changed}
+use Rattle.kms_kept.specs.Kept.{Kept, after_step, changed}
 use Rattle.kms_store.specs.ReadyStep.{TaggedStep}
 use Rattle.kms_store.specs.Store.{IsReserved}
 use Rattle.kms_core.specs.Stands.{kept_as}

@@ -18,8 +18,9 @@ use crate::asked::refused;
 use crate::{AskFault, Asked};
 use kms_host::Host;
 use kms_journal::{Journal, StoreFault};
+use kms_operations::asked;
 use kms_store::{ReadyStep, Store};
-use kms_world::{Caller, Op, Refusal};
+use kms_world::{Caller, CheckFault, Op};
 use std::alloc::Global;
 use std::marker::Model;
 
@@ -65,13 +66,10 @@ impl Engine {
         ensures store { KeepsTheSame self.old.store self.new.store }
         ensures host { host.new ≡ host.old }
     {
-        match op {
-            Op::PostSecret { body } => match body {
-                Ok(body) => self.post_secret(caller, body, moment),
-                Err(refusal) => Ok(refused(refusal)),
-            },
-            Op::GetSecret { id, .. } => self.get_secret(caller, id, moment),
-            _ => Ok(refused(Refusal::NoRoute)),
+        match asked(self.alloc, self.store.rows(), caller, op, moment) {
+            Ok(outcome) => self.prepare(outcome),
+            Err(CheckFault::Refused(refusal)) => Ok(refused(refusal)),
+            Err(CheckFault::NoMemory) => Err(AskFault::NoMemory),
         }
     }
 

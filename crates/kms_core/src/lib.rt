@@ -4,7 +4,7 @@
 mod asked;
 mod engine;
 pub mod laws;
-mod secrets;
+mod prepare;
 mod start;
 mod start_fault;
 #[cfg(test)]

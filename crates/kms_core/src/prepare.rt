@@ -45,15 +45,13 @@ impl Engine {
         ensures same { self.new.state ≡ self.old.state }
         ensures store { KeepsTheSame self.old.store self.new.store }
     {
-        match outcome.change {
-            None => Ok(Asked {
-                answer: outcome.answer,
-                step: None,
-            }),
+        let Outcome { answer, change } = outcome;
+        match change {
+            None => Ok(Asked { answer, step: None }),
             Some(change) => {
                 let step = self.reserve(change)?;
                 Ok(Asked {
-                    answer: outcome.answer,
+                    answer,
                     step: Some(step),
                 })
             }
