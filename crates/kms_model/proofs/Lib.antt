@@ -1,3 +1,4 @@
 pub mod AskLaws
 pub mod PayloadReading
 pub mod SecretLaws
+pub mod StatusLaws

@@ -16,12 +16,14 @@ use Rattle.kms_world.specs.declared.body.SecretBody.{SecretBody}
 use Rattle.kms_world.specs.declared.caller.Caller.{Caller}
 use Rattle.kms_world.specs.declared.id.Id.{Id}
 use Rattle.kms_world.specs.declared.payload.Payload.{Payload}
+use Rattle.kms_world.specs.declared.quota.QuotaKind.TheVariants.{Secrets}
 use Rattle.kms_world.specs.declared.refusal.Refusal.{Refusal}
 use Rattle.kms_world.specs.declared.refusal.Refusal.TheVariants.{Denied}
 use Rattle.kms_world.specs.declared.secret.SecretRow.{SecretRow}
 use Rattle.kms_model.specs.Done.{Done, ◌>>=◌, only_if}
 use Rattle.kms_model.specs.Permission.{granted}
-use Rattle.kms_model.specs.Secrets.{has_id, if_passes, is_live, live_secret, new_secret, next_id, posted, secret_for, secret_target, without_payload}
+use Rattle.kms_model.specs.Quotas.{within_quota}
+use Rattle.kms_model.specs.Secrets.{has_id, if_passes, is_live, live_secret, new_secret, next_id, posted, secret_for, secret_target, wanted, without_payload}
 
 -- ---- tests in a row that gave
 
@@ -108,18 +110,24 @@ pub record IsPosted (s : State) (caller : Caller) (body : SecretBody) (t : ℕ) 
 done_same : (d e : Done) → (let x : Result Done Refusal = Ok d in let y : Result Done Refusal = Ok e in x ≡ y) → d ≡ e
 done_same d e is = cc
 
+new_same : (a b : NewSecret) → (let x : Result NewSecret Refusal = Ok a in let y : Result NewSecret Refusal = Ok b in x ≡ y) → a ≡ b
+new_same a b e = cc
+
 pub is_posted : (s : State) (caller : Caller) (body : SecretBody) (t : ℕ) (done : Done) → posted s caller (Ok body) t ≡ Ok done → IsPosted s caller body t done
 is_posted s caller body t done is =
-    let a = gave (granted caller SecretCreate None) _ done is in
-    let b = gave (checked_secret body t) _ done a.2 in
-    let c = gave (without_payload b.0) _ done b.2 in
-    let d = gave (only_if (has_id s) _) _ done c.2 in
+    let w = gave (wanted caller (Ok body) t) _ done is in
+    let a = gave (granted caller SecretCreate None) _ w.0 w.1 in
+    let b = gave (checked_secret body t) _ w.0 a.2 in
+    let c = gave (without_payload b.0) _ w.0 b.2 in
+    let new : b.0 ≡ w.0 = new_same b.0 w.0 c.2 in
+    let r = gave (within_quota s caller.project Secrets) _ done w.2 in
+    let d = gave (only_if (has_id s) _) _ done r.2 in
     let same = done_same _ done d.2 in
     record {
-      new = b.0;
-      checked = b.1;
-      bare = no_payload b.0.payload (held (is_none b.0.payload) _ c.0 c.1);
+      new = w.0;
+      checked = subst (λ (n : NewSecret). checked_secret body t ≡ Ok n) new b.1;
+      bare = subst (λ (n : NewSecret). n.payload ≡ None) new (no_payload b.0.payload (held (is_none b.0.payload) _ c.0 c.1));
       left = ltb-true s.ids (2 ^ 62) (held (has_id s) _ d.0 d.1);
       ids = subst (λ (x : Done). (after_effects x.effects s).ids ≡ s.ids + 1) same (next_given s);
-      last = subst (λ (x : Done). (after_effects x.effects s).secrets ≡ s.secrets ++ new_secret s caller b.0 t ∷ []) same refl;
+      last = subst (λ (x : Done). (after_effects x.effects s).secrets ≡ s.secrets ++ new_secret s caller w.0 t ∷ []) same refl;
     }

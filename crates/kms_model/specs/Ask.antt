@@ -12,6 +12,7 @@ use Rattle.kms_world.specs.declared.refusal.Refusal.TheVariants.{NoRoute}
 use Rattle.kms_model.specs.AccessLists.{acl_shown, acl_put, acl_patched, acl_deleted}
 use Rattle.kms_model.specs.Done.{Done, answer_by, effects_by, has_some}
 use Rattle.kms_model.specs.Metadata.{metadata_shown, metadata_put, pair_posted, pair_shown, pair_put, pair_deleted}
+use Rattle.kms_model.specs.Quotas.{quotas_shown, project_quotas_shown, project_quotas_put, project_quotas_deleted}
 use Rattle.kms_model.specs.Secrets.{posted, shown, deleted}
 
 -- an operation that isn't served is refused as a path that isn't there
@@ -45,11 +46,11 @@ asked s caller (ListOrders query) t = Err NoRoute
 asked s caller (PostOrder body) t = Err NoRoute
 asked s caller (GetOrder id) t = Err NoRoute
 asked s caller (DeleteOrder id) t = Err NoRoute
-asked s caller GetQuotas t = Err NoRoute
+asked s caller GetQuotas t = quotas_shown s caller
 asked s caller (ListQuotas query) t = Err NoRoute
-asked s caller (GetProjectQuotas project) t = Err NoRoute
-asked s caller (PutProjectQuotas project body) t = Err NoRoute
-asked s caller (DeleteProjectQuotas project) t = Err NoRoute
+asked s caller (GetProjectQuotas project) t = project_quotas_shown s caller project
+asked s caller (PutProjectQuotas project body) t = project_quotas_put s caller project body
+asked s caller (DeleteProjectQuotas project) t = project_quotas_deleted s caller project
 
 abbrev pub answer_to : State → Caller → Op → ℕ → Answer
 answer_to s caller op t = answer_by (asked s caller op t)

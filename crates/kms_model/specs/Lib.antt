@@ -11,3 +11,4 @@ pub mod Permission
 pub mod Quotas
 pub mod Run
 pub mod Secrets
+pub mod Statuses

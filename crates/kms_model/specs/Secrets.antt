@@ -13,6 +13,7 @@ use Rattle.kms_world.specs.declared.action.Action.TheVariants.{SecretCreate, Sec
 use Rattle.kms_world.specs.declared.id.Id.{Id}
 use Rattle.kms_world.specs.declared.caller.Caller.{Caller}
 use Rattle.kms_world.specs.declared.body.SecretBody.{SecretBody}
+use Rattle.kms_world.specs.declared.quota.QuotaKind.TheVariants.{Secrets}
 use Rattle.kms_world.specs.declared.secret.SecretRow.{SecretRow}
 use Rattle.kms_world.specs.declared.refusal.Field.TheVariants.{Payload}
 use Rattle.kms_world.specs.declared.refusal.Refusal.{Refusal}
@@ -23,6 +24,7 @@ use Rattle.kms_world.specs.declared.reply.Media2.TheVariants.{Json}
 use Rattle.kms_model.specs.Accept.{admits}
 use Rattle.kms_model.specs.Done.{Done, ◌>>=◌, only_if, there}
 use Rattle.kms_model.specs.Permission.{granted}
+use Rattle.kms_model.specs.Quotas.{within_quota}
 
 -- an id is left
 abbrev pub has_id : State → Bool
@@ -82,13 +84,20 @@ new_secret s caller new t = record {
 abbrev pub without_payload : NewSecret → Result (Unit {0}) Refusal
 without_payload new = only_if (is_none new.payload) (BadBody Payload)
 
--- POST of a secret
-abbrev pub posted : State → Caller → Result SecretBody Refusal → ℕ → Result Done Refusal
-posted s caller body t = do
+-- the secret that a body asks for, of a caller who may make one
+abbrev pub wanted : Caller → Result SecretBody Refusal → ℕ → Result NewSecret Refusal
+wanted caller body t = do
   may ← granted caller SecretCreate None
   given ← body
   new ← checked_secret given t
   bare ← without_payload new
+  Ok new
+
+-- POST of a secret
+abbrev pub posted : State → Caller → Result SecretBody Refusal → ℕ → Result Done Refusal
+posted s caller body t = do
+  new ← wanted caller body t
+  room ← within_quota s caller.project Secrets
   left ← only_if (has_id s) IdsSpent
   Ok (record { answer = Link 201 SecretLink (next_id s); effects = SecretPut (new_secret s caller new t) ∷ [] })
 

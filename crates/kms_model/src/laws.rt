@@ -3,6 +3,7 @@ ghost use Rattle.std.specs.Prelude.{◌≡◌, ◌<◌, ◌≤◌, ◌+◌, ◌+
 ghost use Rattle.kms_model.specs.Ask.{answer_to, asked, state_after, stores};
 ghost use Rattle.kms_model.specs.Done.{Done};
 ghost use Rattle.kms_model.specs.Secrets.{live_secret, new_secret, posted, secret_for, secret_target};
+ghost use Rattle.kms_model.specs.Statuses.{HasStatus};
 ghost use Rattle.kms_policy.specs.Policy.{decision};
 ghost use Rattle.kms_secret.specs.Secret.{checked_secret};
 ghost use Rattle.kms_secret.specs.declared.secret.NewSecret.{NewSecret};
@@ -57,4 +58,9 @@ pub fn a_posted_secret_takes_the_next_id()
         → (new : NewSecret) × (checked_secret body t ≡ Ok new) × (new.payload ≡ None) × ((after_effects done.effects s).secrets ≡ s.secrets ++ new_secret s caller new t ∷ []) }
     ensures ids { (s : State) (caller : Caller) (body : SecretBody) (t : ℕ) (done : Done) → posted s caller (Ok body) t ≡ Ok done → (after_effects done.effects s).ids ≡ s.ids + 1 }
     ensures left { (s : State) (caller : Caller) (body : SecretBody) (t : ℕ) (done : Done) → posted s caller (Ok body) t ≡ Ok done → s.ids < 2 ^ 62 }
+{}
+
+/// An answer that has a status of its own has one of success.
+pub fn answers_have_statuses_of_success()
+    ensures { (s : State) (caller : Caller) (op : Op) (t : ℕ) → HasStatus (answer_to s caller op t) }
 {}

@@ -29,7 +29,7 @@ use Rattle.kms_operations.specs.Outcome.{Fits}
 use Rattle.kms_secret.proofs.RuleLaws.{given, given_is}
 use Rattle.kms_operations.proofs.FitLaws.{acl_fits}
 
-name_short : (text : List ℕ) → is_name text ≡ true → length text ≤ 64
+pub name_short : (text : List ℕ) → is_name text ≡ true → length text ≤ 64
 name_short text is =
     let parts = and_parts _ (list_all is_name_byte text) is in
     leb-true (length text) 64 (and_parts _ _ parts.0).1

@@ -27,7 +27,7 @@ one_of P true x others here there = here
 one_of P false x others here there = there
 
 -- what is found among rows that all are so is so
-found_is : {X : Type 0} (P : X → Type 0) (test : X → Bool) (xs : List X) → AllByRecursion P xs → IfSome (find test xs) P
+pub found_is : {X : Type 0} (P : X → Type 0) (test : X → Bool) (xs : List X) → AllByRecursion P xs → IfSome (find test xs) P
 found_is P test [] each = tt
 found_is P test (x ∷ xs) each = one_of P (test x) x (find test xs) each.0 (found_is P test xs each.1)
 

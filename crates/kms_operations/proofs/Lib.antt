@@ -3,3 +3,4 @@ pub mod ElementLaws
 pub mod FitLaws
 pub mod FoundLaws
 pub mod PairLaws
+pub mod QuotaLaws

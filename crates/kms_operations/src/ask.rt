@@ -3,7 +3,7 @@ ghost use Rattle.std.specs.Prelude.{◌<◌, IfOk};
 ghost use Rattle.kms_model.specs.Ask.{asked};
 ghost use Rattle.kms_operations.specs.Outcome.{Comes, IsPossible};
 
-use crate::{Outcome, access_lists, metadata, secrets};
+use crate::{Outcome, access_lists, metadata, quotas, secrets};
 use kms_store::Tables;
 use kms_world::{Caller, CheckFault, Op, Refusal};
 use std::alloc::Global;
@@ -42,6 +42,10 @@ pub fn asked(
             access_lists::patched(alloc, rows, caller, kind, id, body, moment)
         }
         Op::DeleteAcl { kind, id } => access_lists::deleted(rows, caller, kind, id, moment),
+        Op::GetQuotas => quotas::shown(rows, caller),
+        Op::GetProjectQuotas { project } => quotas::project_shown(rows, caller, project),
+        Op::PutProjectQuotas { project, body } => quotas::put(rows, caller, project, body),
+        Op::DeleteProjectQuotas { project } => quotas::deleted(rows, caller, project),
         Op::ListSecrets { .. }
         | Op::PutPayload { .. }
         | Op::GetPayload { .. }
@@ -58,10 +62,6 @@ pub fn asked(
         | Op::PostOrder { .. }
         | Op::GetOrder { .. }
         | Op::DeleteOrder { .. }
-        | Op::GetQuotas
-        | Op::ListQuotas { .. }
-        | Op::GetProjectQuotas { .. }
-        | Op::PutProjectQuotas { .. }
-        | Op::DeleteProjectQuotas { .. } => Err(CheckFault::Refused(Refusal::NoRoute)),
+        | Op::ListQuotas { .. } => Err(CheckFault::Refused(Refusal::NoRoute)),
     }
 }

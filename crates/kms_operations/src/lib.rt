@@ -12,6 +12,7 @@ mod names;
 mod outcome;
 mod pairs;
 mod permission;
+mod quotas;
 mod secrets;
 
 pub use ask::asked;

@@ -4,6 +4,7 @@ ghost use Rattle.std.specs.Option.{ForSome};
 ghost use Rattle.kms_model.specs.Secrets as spec;
 ghost use Rattle.kms_operations.specs.Found.{Finds, IsKeptSecret};
 ghost use Rattle.kms_operations.specs.Outcome.{Comes, IsPossible};
+ghost use Rattle.kms_secret.specs.Ranges.{IsSecretInRange};
 ghost use Rattle.kms_world.specs.Checked.{IsUnlessNoMemory};
 ghost use Rattle.kms_world.specs.Secret.{attributes_of};
 
@@ -13,12 +14,13 @@ use crate::body::given;
 use crate::count::{count_of, has_id};
 use crate::names::names_fit;
 use crate::permission::{granted, granted_on_secret};
+use crate::quotas::within_quota;
 use kms_record::{Change, SecretPut};
-use kms_secret::check_secret;
+use kms_secret::{NewSecret, check_secret};
 use kms_store::{KeptSecret, Tables};
 use kms_world::{
-    Action, Answer, Caller, CheckFault, Field, Id, Link, Media2, Refusal, SecretBody, SecretRow,
-    Text, id_of,
+    Action, Answer, Caller, CheckFault, Field, Id, Link, Media2, QuotaKind, Refusal, SecretBody,
+    SecretRow, Text, id_of,
 };
 use std::alloc::Global;
 
@@ -68,6 +70,26 @@ pub fn secret_for<'a>(
     Ok(secret)
 }
 
+// The secret that a body asks for, of a caller who may make one.
+fn wanted(
+    alloc: Global,
+    caller: &Caller,
+    body: Result<SecretBody, Refusal>,
+    moment: u64,
+) -> Result<NewSecret, CheckFault>
+    ensures is { IsUnlessNoMemory result (spec.wanted caller.now body moment) }
+    ensures range { IfOk result (IsSecretInRange moment) }
+{
+    granted(caller, Action::SecretCreate)?;
+    let body = given(body)?;
+    let new = check_secret(alloc, &body, moment)?;
+    // Payloads aren't taken yet.
+    if !new.payload.is_none() {
+        return Err(CheckFault::Refused(Refusal::BadBody(Field::Payload)));
+    }
+    Ok(new)
+}
+
 pub fn posted(
     alloc: Global,
     rows: &Tables,
@@ -79,13 +101,8 @@ pub fn posted(
     ensures comes { Comes rows.now.kept.state.tag result (spec.posted rows.now.kept.state caller.now body moment) }
     ensures possible { IfOk result (IsPossible rows.now.kept) }
 {
-    granted(caller, Action::SecretCreate)?;
-    let body = given(body)?;
-    let new = check_secret(alloc, &body, moment)?;
-    // Payloads aren't taken yet.
-    if !new.payload.is_none() {
-        return Err(CheckFault::Refused(Refusal::BadBody(Field::Payload)));
-    }
+    let new = wanted(alloc, caller, body, moment)?;
+    within_quota(rows, &caller.project, QuotaKind::Secrets)?;
     if !has_id(rows) {
         return Err(CheckFault::Refused(Refusal::IdsSpent));
     }

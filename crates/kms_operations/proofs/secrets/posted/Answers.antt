@@ -1,13 +1,12 @@
 use Rattle.std.proofs.Common.{◌≡◌, ◌^◌, true, arith}
 use Rattle.std.proofs.lemmas.Bool.{ltb-true}
 use Rattle.kms_model.specs.Secrets.{has_id}
-use Rattle.kms_secret.proofs.RangeLaws.{secret_in_range}
 use Rattle.kms_operations.proofs.FitLaws.{secret_fits}
 use Rattle.kms_operations.proofs.secrets.posted.Goals as goal
 
 pub returns-clause-possible : goal.returns-clause-possible
 returns-clause-possible c =
-    let new = secret_in_range c.in_ok-body.body c.args.moment c.in_ok-new.new c.in_ok-new.ensures in
+    let new = c.in_ok-new.ensures.range in
     let left : has_id c.args.rows.now.kept.state ≡ true = cc in
     let lt = ltb-true c.args.rows.now.kept.state.ids (2 ^ 62) left in
     record {
