@@ -6,16 +6,17 @@ use crate::tests::{MOMENT, attached, creates, starts, takes_over};
 use crate::{Asked, Engine};
 use kms_host::{Host, NoMemory};
 use kms_world::{
-    AclBody, AclKind, Caller, Id, MetadataBody, Name, Op, PairBody, ReadBody, Roles, SecretBody,
-    Text, TextPairs, Texts,
+    AclBody, AclKind, Caller, Id, MetadataBody, Name, Op, PairBody, QuotaBody, QuotaValues,
+    ReadBody, Roles, SecretBody, Text, TextPairs, Texts,
 };
 use std::alloc::Global;
 use std::rt::HostRuntime;
 use std::test::Fail;
 
+mod callers;
 mod table;
 
-use crate::tests::operations::table::{ACCESS_LISTS, EXPIRY, METADATA, SECRETS, WHO_MAY};
+use crate::tests::operations::table::{ACCESS_LISTS, EXPIRY, METADATA, QUOTAS, SECRETS, WHO_MAY};
 
 // A user of a project, with these roles.
 #[derive(Clone, Copy)]
@@ -42,6 +43,11 @@ pub enum What {
     PutAcl(AclKind, u8, Option<&'static [&'static str]>, Option<bool>),
     PatchAcl(AclKind, u8, Option<&'static [&'static str]>, Option<bool>),
     DeleteAcl(AclKind, u8),
+    GetQuotas,
+    GetProjectQuotas(&'static str),
+    /// a project and its limit of secrets
+    PutQuotas(&'static str, i128),
+    DeleteQuotas(&'static str),
 }
 
 // Who asks, how many seconds after the first row, what, and how the answer begins.
@@ -140,6 +146,17 @@ fn secret(
     })
 }
 
+fn limit(secrets: i128) -> QuotaBody {
+    QuotaBody {
+        project_quotas: Some(QuotaValues {
+            secrets: Some(secrets),
+            orders: None,
+            containers: None,
+            consumers: None,
+        }),
+    }
+}
+
 fn op(alloc: Global, what: What) -> Result<Op, kms_world::NoMemory> {
     Ok(match what {
         What::Post(name, secret_type, expiration, payload) => Op::PostSecret {
@@ -184,6 +201,17 @@ fn op(alloc: Global, what: What) -> Result<Op, kms_world::NoMemory> {
             body: Ok(list(alloc, users, access)?),
         },
         What::DeleteAcl(kind, n) => Op::DeleteAcl { kind, id: id(n) },
+        What::GetQuotas => Op::GetQuotas,
+        What::GetProjectQuotas(project) => Op::GetProjectQuotas {
+            project: Name::read(project.as_bytes()),
+        },
+        What::PutQuotas(project, secrets) => Op::PutProjectQuotas {
+            project: Name::read(project.as_bytes()),
+            body: Ok(limit(secrets)),
+        },
+        What::DeleteQuotas(project) => Op::DeleteProjectQuotas {
+            project: Name::read(project.as_bytes()),
+        },
     })
 }
 
@@ -252,6 +280,7 @@ fn the_earlier_refusal_is_answered(rt: HostRuntime) -> Result<(), Fail> {
     assert_eq!(rt; wrong(alloc, &SECRETS)?, None);
     assert_eq!(rt; wrong(alloc, &METADATA)?, None);
     assert_eq!(rt; wrong(alloc, &ACCESS_LISTS)?, None);
+    assert_eq!(rt; wrong(alloc, &QUOTAS)?, None);
     Ok(())
 }
 

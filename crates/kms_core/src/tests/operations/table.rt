@@ -1,78 +1,9 @@
 // Rows of operations and their answers.
-use crate::tests::operations::{Row, What, Who};
-use kms_world::{AclKind, Roles};
-
-const NOBODY: Roles = Roles {
-    admin: false,
-    creator: false,
-    observer: false,
-    audit: false,
-    service_admin: false,
+use crate::tests::operations::callers::{
+    AUDITOR, COLLEAGUE, GUEST, OBSERVER, OPERATOR, OWNER, STRANGER,
 };
-
-const CREATORS: Roles = Roles {
-    admin: false,
-    creator: true,
-    observer: false,
-    audit: false,
-    service_admin: false,
-};
-
-const OBSERVERS: Roles = Roles {
-    admin: false,
-    creator: false,
-    observer: true,
-    audit: false,
-    service_admin: false,
-};
-
-const AUDITORS: Roles = Roles {
-    admin: false,
-    creator: false,
-    observer: false,
-    audit: true,
-    service_admin: false,
-};
-
-// The creator u1 of the project p1.
-const OWNER: Who = Who {
-    project: b"p1",
-    user: b"u1",
-    roles: CREATORS,
-};
-
-// Another creator of the project.
-const COLLEAGUE: Who = Who {
-    project: b"p1",
-    user: b"u2",
-    roles: CREATORS,
-};
-
-const OBSERVER: Who = Who {
-    project: b"p1",
-    user: b"u3",
-    roles: OBSERVERS,
-};
-
-const AUDITOR: Who = Who {
-    project: b"p1",
-    user: b"u4",
-    roles: AUDITORS,
-};
-
-// The user u5 of the project p2, who may everything there that a creator may.
-const STRANGER: Who = Who {
-    project: b"p2",
-    user: b"u5",
-    roles: CREATORS,
-};
-
-// The same without any role.
-const GUEST: Who = Who {
-    project: b"p2",
-    user: b"u5",
-    roles: NOBODY,
-};
+use crate::tests::operations::{Row, What};
+use kms_world::AclKind;
 
 const PLAIN: What = What::Post("a", None, None, None);
 
@@ -434,4 +365,54 @@ pub static EXPIRY: [Row; 8] = [
     ),
     (OWNER, 1, What::Delete(0), "Empty(204)"),
     (OWNER, 1, What::Delete(0), ABSENT),
+];
+
+const ADMIN_DENIED: &str = "Refused(Denied(Rule { action: QuotaAdmin, why: Role }))";
+
+// What isn't a project, the policy, then the row or the body. A quota that is reached refuses one secret more, after the body,
+// in its own project alone.
+pub static QUOTAS: [Row; 18] = [
+    (OWNER, 0, What::GetProjectQuotas("/"), ABSENT),
+    (OWNER, 0, What::PutQuotas("/", -2), ABSENT),
+    (OWNER, 0, What::PutQuotas("p1", -2), ADMIN_DENIED),
+    (OWNER, 0, What::DeleteQuotas("p1"), ADMIN_DENIED),
+    (
+        OPERATOR,
+        0,
+        What::GetQuotas,
+        "Refused(Denied(Rule { action: QuotaGet, why: Role }))",
+    ),
+    (OPERATOR, 0, What::GetProjectQuotas("p1"), ABSENT),
+    (OPERATOR, 0, What::DeleteQuotas("p1"), ABSENT),
+    (
+        OPERATOR,
+        0,
+        What::PutQuotas("p1", -2),
+        "Refused(BadBody(Secrets))",
+    ),
+    (OPERATOR, 0, What::PutQuotas("p1", 1), "Empty(204)"),
+    (
+        OPERATOR,
+        0,
+        What::GetProjectQuotas("p1"),
+        "ProjectQuotas(QuotaRow { project: Name { bytes: [112, 49, 0",
+    ),
+    (
+        OWNER,
+        0,
+        What::GetQuotas,
+        "Quotas(QuotaRow { project: Name { bytes: [112, 49, 0",
+    ),
+    (OWNER, 0, PLAIN, POSTED),
+    (
+        OWNER,
+        0,
+        What::Post(LONG, None, None, None),
+        "Refused(BadBody(Name))",
+    ),
+    (OWNER, 0, PLAIN, "Refused(QuotaReached(Secrets, 1))"),
+    (STRANGER, 0, PLAIN, POSTED),
+    (OWNER, 0, What::Delete(0), "Empty(204)"),
+    (OWNER, 0, PLAIN, POSTED),
+    (OPERATOR, 0, What::DeleteQuotas("p1"), "Empty(204)"),
 ];
