@@ -4,30 +4,18 @@ ghost use Rattle.kms_serve.specs.Requests as spec;
 
 use kms_http::{Message, RouteFault, Routes, Served, route};
 use kms_json::op;
-use kms_world::{Caller, NoMemory, Refusal, Request, Roles, Shape};
+use kms_world::{NoMemory, Request};
 use std::alloc::Global;
-
-fn is_served(roles: Roles) -> bool
-    ensures { result ≡ spec.is_served roles }
-{
-    roles.admin || roles.creator
-}
-
-fn by_shape(alloc: Global, caller: Caller, shape: Shape, body: &[u8]) -> Result<Request, NoMemory>
-    ensures { IfOk result (λ request. request ≡ spec.by_shape caller shape body.now) }
-{
-    if !is_served(caller.roles) {
-        return Ok(Request::Refusing(Refusal::NoIdentity));
-    }
-    Ok(Request::Asking(caller, op(alloc, shape, body)?))
-}
 
 #[tactic(auto, unfolding(crate::specs::Requests::request_in))]
 fn request_in(alloc: Global, routes: &Routes, message: &Message) -> Result<Request, NoMemory>
     ensures { IfOk result (λ request. request ≡ spec.request_in message.now) }
 {
     match route(routes, alloc, &message.head) {
-        Ok((caller, shape)) => by_shape(alloc, caller, shape, message.body.as_slice()),
+        Ok((caller, shape)) => {
+            let op = op(alloc, shape, message.body.as_slice())?;
+            Ok(Request::Asking(caller, op))
+        }
         Err(RouteFault::Refused(refusal)) => Ok(Request::Refusing(refusal)),
         Err(RouteFault::NoMemory) => Err(NoMemory),
     }

@@ -18,7 +18,10 @@ const INVALID: &[u8] =
     b"GET /v1/nothing HTTP/1.1\r\nX-Project-Id: p1\r\nX-User-Id: u1\r\nX-Roles: creator\r\nX-Identity-Status: Invalid\r\n\r\n";
 
 const OBSERVER: &[u8] =
-    b"GET /v1/orders HTTP/1.1\r\nX-Project-Id: p1\r\nX-User-Id: u1\r\nX-Roles: observer\r\n\r\n";
+    b"POST /v1/secrets HTTP/1.1\r\nX-Project-Id: p1\r\nX-User-Id: u1\r\nX-Roles: observer\r\nContent-Length: 2\r\n\r\n{}";
+
+const DENIED: &[u8] =
+    b"HTTP/1.1 403 Forbidden\r\nDate: Sat, 26 Oct 1985 08:20:00 GMT\r\nContent-Type: application/json\r\nContent-Length: 75\r\n\r\n{\"code\":403,\"description\":\"Denied: secret:create/role\",\"title\":\"Forbidden\"}";
 
 const NO_IDENTITY: &[u8] =
     b"HTTP/1.1 401 Unauthorized\r\nDate: Sat, 26 Oct 1985 08:20:00 GMT\r\nContent-Type: application/json\r\nContent-Length: 62\r\nWWW-Authenticate: Keystone\r\n\r\n{\"code\":401,\"description\":\"NoIdentity\",\"title\":\"Unauthorized\"}";
@@ -91,7 +94,7 @@ fn requests_are_refused(rt: HostRuntime) -> Result<(), Fail> {
     let table: [(&[u8], &[u8]); 6] = [
         (NO_USER, NO_IDENTITY),
         (INVALID, NO_IDENTITY),
-        (OBSERVER, NO_IDENTITY),
+        (OBSERVER, DENIED),
         (NOTHING, NO_ROUTE),
         (ORDERS, NO_ROUTE),
         (PUT_QUOTAS, WRONG_METHOD),
