@@ -7,10 +7,10 @@ ghost use Rattle.kms_store.specs.Staged.{nothing_staged};
 ghost use Rattle.kms_journal.specs.Position.{IsPlaced};
 ghost use Rattle.kms_journal.specs.Standing.{Standing};
 
-use crate::tests::{TAG, found};
+use crate::tests::{TAG, chain, found};
 use crate::{Part, Store};
 use kms_host::{Bytes, Host, MemoryHost, NoMemory, Pick};
-use kms_journal::{Chain, CreateFault, Journal, create, recover};
+use kms_journal::{CreateFault, Journal, create, recover};
 use kms_record::{Change, SecretPut, Step};
 use kms_world::{Name, SecretKind};
 use std::alloc::Global;
@@ -115,162 +115,71 @@ fn stages(store: &mut Store, step: Step) -> Result<bool, NoMemory>
     }
 }
 
-// Stages two secrets under the ids from this count on, each by a step of its own.
-fn stages_two(alloc: Global, store: &mut Store, first: u8) -> Result<bool, NoMemory>
+// Stages two secrets, each by a step of its own.
+fn stages_two(alloc: Global, store: &mut Store) -> Result<bool, NoMemory>
     requires { store.old.staging ≡ nothing_staged }
 {
-    let one = posting(alloc, first as u64)?;
-    let two = posting(alloc, first as u64 + 1)?;
-    Ok(stages(store, one)? && stages(store, two)? && store.staged() == 2)
+    let first = posting(alloc, 0)?;
+    let second = posting(alloc, 1)?;
+    Ok(stages(store, first)? && stages(store, second)? && store.staged() == 2)
 }
 
-// Settles the staged steps, where none is given with the public call, else within a number of bytes of records.
-fn settles<H: Host>(
-    store: &mut Store,
-    host: &mut H,
-    journal: &mut Journal,
-    limit: Option<u64>,
-) -> bool
+fn settles<H: Host>(store: &mut Store, host: &mut H, journal: &mut Journal) -> bool
     requires working { journal.old.failed ≡ false }
     requires placed { WhereTold (H.history host.old) (λ h. (s : Standing) × IsPlaced journal.old h s) }
 {
-    match limit {
-        Some(limit) => store.settle_within(host, journal, limit).is_ok(),
-        None => store.settle(host, journal).is_ok(),
-    }
+    store.settle(host, journal).is_ok()
 }
 
-// What the store of an attached host has in its records and its snapshot. It stays attached.
-fn reads<H: Host>(alloc: Global, host: &mut H) -> Result<Chain, NoMemory>
-    requires { WhereTold (H.history host.old) IsAttached }
-    ensures { WhereTold (H.history host.new) IsAttached }
-{
-    let mut journal = opens(alloc, host)?;
-    match journal.bodies(alloc, host) {
-        Ok(chain) => Ok(chain),
-        Err(_) => Err(NoMemory),
-    }
-}
-
-// The store of an attached host settles two secrets more, from this count on, while so many calls on its files pass.
-fn settles_while(
-    alloc: Global,
-    host: &mut MemoryHost,
-    first: u8,
-    limit: Option<u64>,
-    passing: u64,
-) -> Result<bool, NoMemory>
+// A store without rows settles two secrets while so many calls on its files pass.
+fn settles_while(alloc: Global, host: &mut MemoryHost, passing: u64) -> Result<bool, NoMemory>
     requires { WhereTold (⟦<MemoryHost as Host>⟧.history host.old) IsAttached }
 {
-    let Ok(mut store) = Store::load(alloc, &reads(alloc, host)?) else {
+    let mut journal = opens(alloc, host)?;
+    let Ok(mut store) = Store::load(alloc, &chain(alloc, 0, &[0; 8], &[])?) else {
         return Err(NoMemory);
     };
-    let mut journal = opens(alloc, host)?;
-    if !stages_two(alloc, &mut store, first)? {
+    if !stages_two(alloc, &mut store)? {
         return Err(NoMemory);
     }
     host.fuse(passing);
-    Ok(settles(&mut store, host, &mut journal, limit))
+    Ok(settles(&mut store, host, &mut journal))
 }
 
-// A host with a fresh store.
-fn fresh(alloc: Global) -> Result<MemoryHost, NoMemory>
-    ensures { IfOk result (λ m. WhereTold (⟦<MemoryHost as Host>⟧.history m) IsAttached) }
+// How many rows the store of an attached host has.
+fn finds<H: Host>(alloc: Global, host: &mut H) -> Result<[u64; 8], NoMemory>
+    requires { WhereTold (H.history host.old) IsAttached }
 {
-    let mut host = attached(alloc, &[], &[])?;
-    match creates(&mut host) {
-        Ok(()) => Ok(host),
+    let mut journal = opens(alloc, host)?;
+    match journal.bodies(alloc, host) {
+        Ok(chain) => match found(alloc, &chain) {
+            Ok(counts) => Ok(counts),
+            Err(_) => Err(NoMemory),
+        },
         Err(_) => Err(NoMemory),
     }
 }
 
-// A host with these files, started again.
-fn again(alloc: Global, host: &MemoryHost, pick: Pick) -> Result<MemoryHost, NoMemory>
-    ensures { IfOk result (λ m. WhereTold (⟦<MemoryHost as Host>⟧.history m) IsAttached) }
-{
+// How many rows what a stop leaves has.
+fn left(alloc: Global, host: &MemoryHost, pick: Pick) -> Result<[u64; 8], NoMemory> {
     let files = host.image(pick)?;
-    attached(alloc, files[0].as_slice(), files[1].as_slice())
-}
-
-// A host whose store has two secrets in a snapshot, with no records after it.
-fn renewed(alloc: Global) -> Result<MemoryHost, NoMemory>
-    ensures { IfOk result (λ m. WhereTold (⟦<MemoryHost as Host>⟧.history m) IsAttached) }
-{
-    let mut host = fresh(alloc)?;
-    if !settles_while(alloc, &mut host, 0, Some(0), 1000)? {
-        return Err(NoMemory);
-    }
-    again(alloc, &host, Pick::Kept)
-}
-
-// A fresh store, or one with two secrets in a snapshot.
-fn begins(alloc: Global, before: u8) -> Result<MemoryHost, NoMemory>
-    ensures { IfOk result (λ m. WhereTold (⟦<MemoryHost as Host>⟧.history m) IsAttached) }
-{
-    if before == 0 {
-        fresh(alloc)
-    } else {
-        renewed(alloc)
-    }
-}
-
-// How many secrets what a stop leaves has, where it has as many ids and no other row.
-fn left(alloc: Global, host: &MemoryHost, pick: Pick) -> Result<Option<u64>, NoMemory> {
-    let mut host = again(alloc, host, pick)?;
-    match found(alloc, &reads(alloc, &mut host)?) {
-        Ok([ids, secrets, 0, 0, 0, 0, 0, 0]) if ids == secrets => Ok(Some(secrets)),
-        _ => Ok(None),
-    }
-}
-
-// Whether what each stop leaves has this many secrets, or two more where the record may have been written, and has them where
-// it was acknowledged.
-fn holds(alloc: Global, host: &MemoryHost, before: u64, passing: u64) -> Result<bool, NoMemory>
-    requires { before < 1000 }
-{
-    for pick in &PICKS {
-        let secrets = left(alloc, host, *pick)?;
-        let has_both = secrets == Some(before + 2);
-        if !has_both && (passing >= 4 || secrets != Some(before)) || has_both && passing < 2 {
-            return Ok(false);
-        }
-    }
-    Ok(true)
-}
-
-// The generation of the store that a host leaves, and how many bytes its records take.
-fn measured(alloc: Global, host: &MemoryHost) -> Result<(u64, u64), NoMemory> {
-    let mut host = again(alloc, host, Pick::Kept)?;
-    let journal = opens(alloc, &mut host)?;
-    Ok((journal.generation(), journal.records()))
+    let mut host = attached(alloc, files[0].as_slice(), files[1].as_slice())?;
+    finds(alloc, &mut host)
 }
 
 #[test]
 fn settling_stops_at_each_call(rt: HostRuntime) -> Result<(), Fail> {
     let alloc = rt.alloc();
     for passing in 0..5u64 {
-        let mut host = fresh(alloc)?;
-        let done = settles_while(alloc, &mut host, 0, None, passing)?;
+        let mut host = attached(alloc, &[], &[])?;
+        assert!(rt; creates(&mut host).is_ok());
+        let done = settles_while(alloc, &mut host, passing)?;
         assert_eq!(rt; done, passing == 4);
-        assert!(rt; holds(alloc, &host, 0, passing)?);
-        assert_eq!(rt; measured(alloc, &host)?.0, 1);
-    }
-    Ok(())
-}
-
-// With any records a snapshot takes their place: first in the file that has nothing, and then over an older generation.
-#[test]
-fn a_snapshot_is_made_past_the_limit(rt: HostRuntime) -> Result<(), Fail> {
-    let alloc = rt.alloc();
-    for before in [0u8, 2] {
-        for passing in 0..16u64 {
-            let mut host = begins(alloc, before)?;
-            let done = settles_while(alloc, &mut host, before, Some(0), passing)?;
-            assert_eq!(rt; done, passing == 15);
-            assert!(rt; holds(alloc, &host, before as u64, passing)?);
-            let (generation, records) = measured(alloc, &host)?;
-            assert!(rt; !done || generation == before as u64 / 2 + 2);
-            assert!(rt; !done || records == 0);
+        for pick in &PICKS {
+            let counts = left(alloc, &host, *pick)?;
+            let has_both = counts == [2, 2, 0, 0, 0, 0, 0, 0];
+            assert!(rt; has_both || (passing < 4 && counts == [0; 8]));
+            assert!(rt; !has_both || passing >= 2);
         }
     }
     Ok(())
