@@ -1,0 +1,6 @@
+mod ClapLaws
+mod CommandLaws
+mod GivenLaws
+mod OptionLaws
+mod SpellingLaws
+mod WiderLaws
