@@ -9,7 +9,6 @@ ghost use Rattle.kms_journal.specs.Standing.{Standing};
 ghost use Rattle.kms_core.specs.Steps.{Prepares, IsIdle, IsWorking};
 
 mod bytes;
-mod operations;
 
 use crate::tests::bytes::{FRESH, FRESH_CHANGES, SETTLED, SETTLED_CHANGES, TWICE_CHANGES};
 use crate::{Asked, Engine, StartFault};
