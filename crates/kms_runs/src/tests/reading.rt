@@ -50,8 +50,8 @@ const WRONG_TYPE: &[u8] =
 const BAD_BODY: &[u8] =
     b"HTTP/1.1 400 Bad Request\r\nDate: Sat, 26 Oct 1985 08:20:00 GMT\r\nContent-Type: application/json\r\nContent-Length: 64\r\n\r\n{\"code\":400,\"description\":\"BadBody: body\",\"title\":\"Bad Request\"}";
 
-const BAD_PAYLOAD: &[u8] =
-    b"HTTP/1.1 400 Bad Request\r\nDate: Sat, 26 Oct 1985 08:20:00 GMT\r\nContent-Type: application/json\r\nContent-Length: 67\r\n\r\n{\"code\":400,\"description\":\"BadBody: payload\",\"title\":\"Bad Request\"}";
+const UNTYPED_PAYLOAD: &[u8] =
+    b"HTTP/1.1 400 Bad Request\r\nDate: Sat, 26 Oct 1985 08:20:00 GMT\r\nContent-Type: application/json\r\nContent-Length: 80\r\n\r\n{\"code\":400,\"description\":\"BadBody: payload_content_type\",\"title\":\"Bad Request\"}";
 
 const BAD_MESSAGE: &[u8] =
     b"HTTP/1.1 400 Bad Request\r\nDate: Sat, 26 Oct 1985 08:20:00 GMT\r\nContent-Type: application/json\r\nContent-Length: 61\r\nConnection: close\r\n\r\n{\"code\":400,\"description\":\"BadMessage\",\"title\":\"Bad Request\"}";
@@ -119,7 +119,7 @@ fn bodies_are_refused(rt: HostRuntime) -> Result<(), Fail> {
         (b"Content-Length: 11\r\n\r\n{\"name\":\"a\"", BAD_BODY),
         (
             b"Content-Length: 32\r\n\r\n{\"payload\":\"hello\",\"name\":\"abc\"}",
-            BAD_PAYLOAD,
+            UNTYPED_PAYLOAD,
         ),
     ];
     for (rest, reply) in table {
