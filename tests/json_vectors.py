@@ -1,6 +1,6 @@
 #!/usr/bin/env python3
-"""Computes the tables in crates/kms_json/src/table.rt again, and ends with status 1 where a text differs. With --write it
-writes that file.
+"""Computes the tables in crates/kms_json/src/table.rt and crates/kms_requests/src/table.rt again, and ends with status 1 where
+a text differs. With --write it writes these files.
 
 The bodies of answers are what Python's json module prints. A row of the other tables is a kind of body, its Content-Type and what is
 read, with `¦` between them, and after `¦¦` the body. What is read is `415`, `bad FIELD`, or the fields in the API's order
@@ -12,7 +12,7 @@ import math
 import sys
 from pathlib import Path
 
-TABLE = Path(__file__).resolve().parent.parent / "crates" / "kms_json" / "src" / "table.rt"
+CRATES = Path(__file__).resolve().parent.parent / "crates"
 K = "http://k/v1"
 FIRST = "01234567-89ab-8cde-8000-000000000000"
 SECOND = "01234567-89ab-8cde-8000-000000000001"
@@ -325,7 +325,7 @@ def groups():
     return {name: [row + (outcome(*row),) for row in dict.fromkeys(some)] for name, some in rows.items()}
 
 
-# ---- the table
+# ---- the tables
 
 
 def quoted(text):
@@ -346,11 +346,16 @@ def quoted(text):
     return f'"{made}"'
 
 
-def table():
-    lines = ["// Bodies of answers and requests that the tests compare; tests/json_vectors.py computes them and says how they read.", ""]
+def answers():
+    lines = ["// Bodies of answers that the tests compare; tests/json_vectors.py computes them and says how they read.", ""]
     for name, value in ANSWERS:
         shown = json.dumps(value, sort_keys=True, separators=(",", ":"), ensure_ascii=False)
         lines += [f"pub static {name}: &str = {quoted(shown)};", ""]
+    return "\n".join(lines)
+
+
+def requests():
+    lines = ["// Bodies of requests that the tests compare; tests/json_vectors.py computes them and says how they read.", ""]
     for name, rows in groups().items():
         lines += [f"pub static {name}: [&str; {len(rows)}] = ["]
         for kind, content_type, body, read in rows:
@@ -360,19 +365,23 @@ def table():
     return "\n".join(lines)
 
 
+TABLES = [(CRATES / "kms_json" / "src" / "table.rt", answers), (CRATES / "kms_requests" / "src" / "table.rt", requests)]
+
+
 def plain(text):
     """The text without its layout."""
     return "".join(text.split())
 
 
 def main():
-    if "--write" in sys.argv[1:]:
-        TABLE.write_text(table())
-        return 0
-    if plain(TABLE.read_text()) != plain(table()):
-        print(f"{TABLE.name} differs")
-        return 1
-    return 0
+    status = 0
+    for path, table in TABLES:
+        if "--write" in sys.argv[1:]:
+            path.write_text(table())
+        elif plain(path.read_text()) != plain(table()):
+            print(f"{path.relative_to(CRATES)} differs")
+            status = 1
+    return status
 
 
 if __name__ == "__main__":

@@ -1,7 +1,6 @@
 pub mod AllowLaws
 pub mod CutLaws
 pub mod DateLaws
-pub mod ElementLaws
 pub mod FeedLaws
 pub mod FieldLaws
 pub mod FramingLaws

@@ -1,4 +1,2 @@
 pub mod Phrases
-mod BodyLaws
 mod Floats
-mod ListLaws

@@ -1,0 +1,2 @@
+mod BodyLaws
+mod ListLaws

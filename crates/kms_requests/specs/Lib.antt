@@ -1,0 +1,12 @@
+pub mod AclBody
+pub mod Body
+pub mod ConsumerBody
+pub mod ContainerBody
+pub mod Fields
+pub mod MemberBody
+pub mod MetadataBody
+pub mod Operation
+pub mod OrderBody
+pub mod PairBody
+pub mod QuotaBody
+pub mod SecretBody
