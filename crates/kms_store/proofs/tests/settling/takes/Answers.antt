@@ -3,7 +3,7 @@ use Rattle.kms_record.specs.Grammar.{IsStepInRange, step_bytes}
 use Rattle.kms_record.proofs.SizeLaws.{step_is_short_lem}
 use Rattle.kms_record.specs.declared.change.Change.{Change}
 use Rattle.kms_store.specs.Staged.{Staging, with_reserved, with_staged}
-use Rattle.kms_store.proofs.tests.settling.stages.Goals as goal
+use Rattle.kms_store.proofs.tests.settling.takes.Goals as goal
 
 pub reserve_step-requires-clause-short : goal.reserve_step-requires-clause-short
 reserve_step-requires-clause-short c =
