@@ -48,11 +48,11 @@ fn answered(alloc: Global, line: &str) -> Result<Option<String>, AllocError> {
 fn repeated(
     alloc: Global,
     count: u32,
-    rows: &[SecretRow],
+    rows: &Vec<SecretRow>,
     places: &[usize],
     query: &Query,
 ) -> Option<Page>
-    requires { All (λ place. place < length rows.now) places.now }
+    requires { All (λ place. place < length rows.now.items) places.now }
 {
     for _ in 1..count {
         let _ = page(alloc, rows, places, query).ok()?;

@@ -2,7 +2,7 @@
 ghost use Rattle.std.specs.Prelude.{◌≡◌};
 ghost use Rattle.kms_page.specs.Filter as spec;
 
-use crate::Query;
+use crate::{Query, Rows};
 use kms_world::{SecretKind, SecretRow, Text};
 
 fn passes_text(wanted: &Option<Text>, attribute: &Option<Text>) -> bool
@@ -47,10 +47,10 @@ pub fn passes(query: &Query, row: &SecretRow) -> bool
 }
 
 // The row at the place passes; where there is no row none does.
-pub fn passes_at(rows: &[SecretRow], query: &Query, place: usize) -> bool
-    ensures { result ≡ spec.passes_at rows.now query.now place }
+pub fn passes_at<R: Rows>(rows: &R, query: &Query, place: usize) -> bool
+    ensures { result ≡ spec.passes_at (R.listed rows.now) query.now place }
 {
-    match rows.get(place) {
+    match rows.row(place) {
         None => false,
         Some(row) => passes(query, row),
     }

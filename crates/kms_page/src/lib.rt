@@ -11,6 +11,7 @@ mod paging;
 mod parameters;
 mod places;
 mod query;
+mod rows;
 mod rules;
 mod sorts;
 #[cfg(test)]
@@ -24,4 +25,5 @@ pub use paging::{page, page_of};
 pub use parameters::Parameters;
 pub use places::{Page, Places};
 pub use query::{Query, QueryFault};
+pub use rows::Rows;
 pub use sorts::{SortKey, Sorts};

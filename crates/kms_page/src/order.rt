@@ -3,7 +3,7 @@ ghost use Rattle.std.specs.Prelude.{◌≡◌};
 ghost use Rattle.std.specs.Option.{option_cmp};
 ghost use Rattle.kms_page.specs.Order as spec;
 
-use crate::SortKey;
+use crate::{Rows, SortKey};
 use kms_world::{SecretRow, Text};
 use std::cmp::Ordering;
 
@@ -56,10 +56,10 @@ fn row_cmp(sorts: &[(SortKey, bool)], a: &SecretRow, b: &SecretRow) -> Ordering
 }
 
 // Two places by their rows; a place without a row comes first.
-pub fn place_cmp(rows: &[SecretRow], sorts: &[(SortKey, bool)], p: usize, q: usize) -> Ordering
-    ensures { result ≡ spec.place_cmp rows.now sorts.now p q }
+pub fn place_cmp<R: Rows>(rows: &R, sorts: &[(SortKey, bool)], p: usize, q: usize) -> Ordering
+    ensures { result ≡ spec.place_cmp (R.listed rows.now) sorts.now p q }
 {
-    match (rows.get(p), rows.get(q)) {
+    match (rows.row(p), rows.row(q)) {
         (Some(a), Some(b)) => row_cmp(sorts, a, b),
         (a, b) => a.is_some().cmp(&b.is_some()),
     }

@@ -7,8 +7,8 @@ ghost use Rattle.kms_page.specs.Page.{ordered, page_from, page_of_rows};
 
 use crate::filter::passes_at;
 use crate::order::place_cmp;
-use crate::{Page, Places, Query};
-use kms_world::{NoMemory, SecretRow};
+use crate::{Page, Places, Query, Rows};
+use kms_world::NoMemory;
 use std::alloc::Global;
 
 // The places on the page.
@@ -44,13 +44,13 @@ fn keep(at: &mut Vec<usize>, place: usize, before: u64, query: &Query) -> Result
 }
 
 // The page of a list that is filtered and not sorted: one walk over the rows, which keeps the places on the page alone.
-fn filtered_page(
+fn filtered_page<R: Rows>(
     alloc: Global,
-    rows: &[SecretRow],
+    rows: &R,
     shown: &[usize],
     query: &Query,
 ) -> Result<Page, NoMemory>
-    ensures { IfOk result (λ page. page ≡ page_from (filtered rows.now shown.now query.now) query.now) }
+    ensures { IfOk result (λ page. page ≡ page_from (filtered (R.listed rows.now) shown.now query.now) query.now) }
 {
     let mut at = Vec::new(alloc);
     let mut total: u64 = 0;
@@ -67,13 +67,13 @@ fn filtered_page(
 }
 
 // The places of the rows that pass.
-fn filtered(
+fn filtered<R: Rows>(
     alloc: Global,
-    rows: &[SecretRow],
+    rows: &R,
     shown: &[usize],
     query: &Query,
 ) -> Result<Vec<usize>, NoMemory>
-    ensures { IfOk result (λ places. places.items ≡ filtered rows.now shown.now query.now) }
+    ensures { IfOk result (λ places. places.items ≡ filtered (R.listed rows.now) shown.now query.now) }
 {
     let mut places = Vec::new(alloc);
     for place in shown {
@@ -85,13 +85,13 @@ fn filtered(
 }
 
 // Puts places in the order of the query's keys.
-fn sort(
+fn sort<R: Rows>(
     alloc: Global,
-    rows: &[SecretRow],
+    rows: &R,
     query: &Query,
     places: &mut [usize],
 ) -> Result<(), NoMemory>
-    ensures { OnOk result (places.new ≡ sorted (order.place_cmp rows.now query.now.sort) places.old) }
+    ensures { OnOk result (places.new ≡ sorted (order.place_cmp (R.listed rows.now) query.now.sort) places.old) }
 {
     let sorts = query.sort.as_slice();
     places.sort_by(alloc, |p, q| place_cmp(rows, sorts, *p, *q))?;
@@ -100,13 +100,13 @@ fn sort(
 
 // The page of a list that is filtered and sorted: the places are put in order, and no row is moved.
 #[tactic(auto, unfolding(crate::specs::Page::ordered))]
-fn sorted_page(
+fn sorted_page<R: Rows>(
     alloc: Global,
-    rows: &[SecretRow],
+    rows: &R,
     shown: &[usize],
     query: &Query,
 ) -> Result<Page, NoMemory>
-    ensures { IfOk result (λ page. page ≡ page_from (ordered rows.now shown.now query.now) query.now) }
+    ensures { IfOk result (λ page. page ≡ page_from (ordered (R.listed rows.now) shown.now query.now) query.now) }
 {
     let mut places = filtered(alloc, rows, shown, query)?;
     sort(alloc, rows, query, &mut places)?;
@@ -132,14 +132,14 @@ fn has_filter(query: &Query) -> bool
 /// Without filters and keys no row is looked at. Without keys each row is looked at once, and what is kept are the places
 /// on the page. With keys all places that pass are kept, and sorted.
 #[tactic(auto, unfolding(crate::specs::Page::page_of_rows))]
-pub fn page(
+pub fn page<R: Rows>(
     alloc: Global,
-    rows: &[SecretRow],
+    rows: &R,
     shown: &[usize],
     query: &Query,
 ) -> Result<Page, NoMemory>
-    requires { All (λ place. place < length rows.now) shown.now }
-    ensures { IfOk result (λ page. page ≡ page_of_rows rows.now shown.now query.now) }
+    requires { All (λ place. place < length (R.listed rows.now)) shown.now }
+    ensures { IfOk result (λ page. page ≡ page_of_rows (R.listed rows.now) shown.now query.now) }
 {
     if !query.sort.as_slice().is_empty() {
         return sorted_page(alloc, rows, shown, query);

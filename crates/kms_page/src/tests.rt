@@ -74,11 +74,11 @@ fn shown(alloc: Global, page: &Page, query: &Query) -> Result<String, Fail> {
 fn answer(
     alloc: Global,
     listing: Listing,
-    rows: &[SecretRow],
+    rows: &Vec<SecretRow>,
     places: &[usize],
     text: &str,
 ) -> Result<String, Fail>
-    requires { All (λ place. place < length rows.now) places.now }
+    requires { All (λ place. place < length rows.now.items) places.now }
 {
     match Query::read(alloc, listing, text.as_bytes()) {
         Ok(query) => {

@@ -11,8 +11,8 @@ use Rattle.kms_page.proofs.SortedLaws.{sorted_is}
 use Rattle.kms_page.proofs.paging.sort.Goals as goal
 
 pub returns : goal.returns
-returns c =
-    let rows = c.args.rows.now in
+returns g c =
+    let rows = g.R.Rows.listed c.args.rows.now in
     let sorts = c.as_slice-sorts.result.now in
     let below = λ (p q : ℕ). is_lt (place_cmp rows sorts p q) in
     let weak : IsStrictWeakOrder below = ranks_by (place_total rows sorts) (λ (p : ℕ). p) in
