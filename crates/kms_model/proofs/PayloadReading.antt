@@ -5,7 +5,6 @@ use Rattle.std.specs.List.{AllByRecursion}
 use Rattle.std.proofs.lemmas.Bool.{eq-eqb}
 use Rattle.kms_world.specs.Effect.{change_rows}
 use Rattle.kms_world.specs.Id.{is_id}
-use Rattle.kms_world.specs.Media.{word_of}
 use Rattle.kms_world.specs.declared.id.Id.{Id}
 use Rattle.kms_world.specs.declared.payload.Payload.{Payload}
 use Rattle.kms_world.specs.declared.refusal.Refusal.{Refusal}
@@ -13,7 +12,8 @@ use Rattle.kms_world.specs.declared.refusal.Refusal.TheVariants.{NoObject, NotAc
 use Rattle.kms_world.specs.declared.secret.SecretRow.{SecretRow}
 use Rattle.kms_world.specs.declared.answer.Answer.TheVariants as answers
 use Rattle.kms_model.specs.Done.{Done, ◌>>=◌, only_if, there}
-use Rattle.kms_model.specs.Payloads.{payload_read, IsPayloadRead}
+use Rattle.kms_model.specs.Accept.{admits}
+use Rattle.kms_model.specs.Payloads.{payload_read, type_of, IsPayloadRead}
 
 -- the new row alone gets the payload
 pub last_changed : (id : Id) (f : SecretRow → SecretRow) (row : SecretRow) (rows : List SecretRow) → is_id id row.id ≡ true → AllByRecursion (λ (other : SecretRow). is_id id other.id ≡ false) rows
@@ -25,25 +25,25 @@ pub same_id : (id : Id) → is_id id id ≡ true
 same_id id = eq-eqb id.0 id.0 refl
 
 -- the tests of a reading, in their order
-abbrev reading : (accepts : List ℕ → Bool) → Option Payload → Result Done Refusal
-reading accepts found = do
+abbrev reading : (accept : Option (List ℕ)) → Option Payload → Result Done Refusal
+reading accept found = do
   payload ← there found
-  taken ← only_if (accepts (word_of payload.media)) NotAcceptable
+  taken ← only_if (admits accept (type_of payload.media)) NotAcceptable
   Ok (record { answer = answers.Payload payload; effects = [] })
 
-accepted_read : (accepts : List ℕ → Bool) (row : SecretRow) (payload : Payload) (taken : Bool) (done : Done) → row.payload ≡ Some payload → accepts (word_of payload.media) ≡ taken
-    → (only_if taken NotAcceptable >>= λ yes. Ok (record { answer = answers.Payload payload; effects = [] })) ≡ Ok done → IsPayloadRead accepts row done
-accepted_read accepts row payload false done has is read = absurd cc
-accepted_read accepts row payload true done has is read =
+accepted_read : (accept : Option (List ℕ)) (row : SecretRow) (payload : Payload) (taken : Bool) (done : Done) → row.payload ≡ Some payload → admits accept (type_of payload.media) ≡ taken
+    → (only_if taken NotAcceptable >>= λ yes. Ok (record { answer = answers.Payload payload; effects = [] })) ≡ Ok done → IsPayloadRead accept row done
+accepted_read accept row payload false done has is read = absurd cc
+accepted_read accept row payload true done has is read =
     let same : (let d : Done = record { answer = answers.Payload payload; effects = [] } in d) ≡ done = cc in
-    subst (IsPayloadRead accepts row) same (record { payload = payload; has = has; accepted = is; answer = refl; effects = refl })
+    subst (IsPayloadRead accept row) same (record { payload = payload; has = has; accepted = is; answer = refl; effects = refl })
 
-by_payload : (accepts : List ℕ → Bool) (row : SecretRow) (found : Option Payload) (done : Done) → row.payload ≡ found → reading accepts found ≡ Ok done → IsPayloadRead accepts row done
-by_payload accepts row None done has read = absurd cc
-by_payload accepts row (Some payload) done has read = accepted_read accepts row payload (accepts (word_of payload.media)) done has refl read
+by_payload : (accept : Option (List ℕ)) (row : SecretRow) (found : Option Payload) (done : Done) → row.payload ≡ found → reading accept found ≡ Ok done → IsPayloadRead accept row done
+by_payload accept row None done has read = absurd cc
+by_payload accept row (Some payload) done has read = accepted_read accept row payload (admits accept (type_of payload.media)) done has refl read
 
-pub read_is : (accepts : List ℕ → Bool) (row : SecretRow) (done : Done) → payload_read accepts row ≡ Ok done → IsPayloadRead accepts row done
-read_is accepts row done read = by_payload accepts row row.payload done refl read
+pub read_is : (accept : Option (List ℕ)) (row : SecretRow) (done : Done) → payload_read accept row ≡ Ok done → IsPayloadRead accept row done
+read_is accept row done read = by_payload accept row row.payload done refl read
 
-pub no_payload : (accepts : List ℕ → Bool) (row : SecretRow) → row.payload ≡ None → payload_read accepts row ≡ Err NoObject
-no_payload accepts row none = rw none refl
+pub no_payload : (accept : Option (List ℕ)) (row : SecretRow) → row.payload ≡ None → payload_read accept row ≡ Err NoObject
+no_payload accept row none = rw none refl

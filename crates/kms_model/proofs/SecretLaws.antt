@@ -1,11 +1,12 @@
 -- What follows for a secret that is posted, for one that is found, and for who may.
 use Rattle.std.proofs.Common.{◌≡◌, ℕ, ◌^◌, ◌<◌, ◌+◌, ◌==◌, Bool, true, false, List, [], ◌∷◌, ◌++◌, Option, Some, None, Result, Ok, Err, cond, refl, ap, subst, arith}
-use Rattle.std.specs.Prelude.{find, is_none}
+use Rattle.std.specs.Prelude.{find}
+use Rattle.std.specs.List.{AllByRecursion}
 use Rattle.std.proofs.lemmas.Bool.{ltb-true, eqb-true}
 use Rattle.kms_policy.specs.Policy.{decision}
 use Rattle.kms_secret.specs.Secret.{checked_secret}
 use Rattle.kms_secret.specs.declared.secret.NewSecret.{NewSecret}
-use Rattle.kms_world.specs.Effect.{after_effects, ids_with}
+use Rattle.kms_world.specs.Effect.{after_effects, ids_with, with_payload}
 use Rattle.kms_world.specs.Id.{is_id}
 use Rattle.kms_world.specs.LookUp.{secret_of}
 use Rattle.kms_world.specs.State.{State}
@@ -21,9 +22,11 @@ use Rattle.kms_world.specs.declared.refusal.Refusal.{Refusal}
 use Rattle.kms_world.specs.declared.refusal.Refusal.TheVariants.{Denied}
 use Rattle.kms_world.specs.declared.secret.SecretRow.{SecretRow}
 use Rattle.kms_model.specs.Done.{Done, ◌>>=◌, only_if}
+use Rattle.kms_model.specs.Payloads.{with_any_payload}
 use Rattle.kms_model.specs.Permission.{granted}
 use Rattle.kms_model.specs.Quotas.{within_quota}
-use Rattle.kms_model.specs.Secrets.{has_id, if_passes, is_live, live_secret, new_secret, next_id, posted, secret_for, secret_target, wanted, without_payload}
+use Rattle.kms_model.specs.Secrets.{has_id, if_passes, is_live, live_secret, new_secret, next_id, posted, posted_effects, secret_for, secret_target, wanted}
+use Rattle.kms_model.proofs.PayloadReading.{last_changed, same_id}
 
 -- ---- tests in a row that gave
 
@@ -95,39 +98,43 @@ eqb_same n = grind arith
 next_given : (s : State) → ids_with (next_id s) s ≡ s.ids + 1
 next_given s = rw (eqb_same (next_id s).0) refl
 
-no_payload : (payload : Option Payload) → is_none payload ≡ true → payload ≡ None
-no_payload None is = refl
-no_payload (Some payload) is = absurd cc
+-- no secret has the next id yet
+abbrev pub IsNextApart : State → Type 0
+IsNextApart s = AllByRecursion (λ (other : SecretRow). is_id (next_id s) other.id ≡ false) s.secrets
 
 pub record IsPosted (s : State) (caller : Caller) (body : SecretBody) (t : ℕ) (done : Done) : Type 0 where
   pub new : NewSecret
   pub checked : checked_secret body t ≡ Ok new
-  pub bare : new.payload ≡ None
   pub left : s.ids < 2 ^ 62
   pub ids : (after_effects done.effects s).ids ≡ s.ids + 1
-  pub last : (after_effects done.effects s).secrets ≡ s.secrets ++ new_secret s caller new t ∷ []
+  pub last : IsNextApart s → (after_effects done.effects s).secrets ≡ s.secrets ++ with_any_payload t new.payload (new_secret s caller new t) ∷ []
 
 done_same : (d e : Done) → (let x : Result Done Refusal = Ok d in let y : Result Done Refusal = Ok e in x ≡ y) → d ≡ e
 done_same d e is = cc
 
-new_same : (a b : NewSecret) → (let x : Result NewSecret Refusal = Ok a in let y : Result NewSecret Refusal = Ok b in x ≡ y) → a ≡ b
-new_same a b e = cc
+ids_after : (s : State) (caller : Caller) (new : NewSecret) (t : ℕ) (payload : Option Payload) → (after_effects (posted_effects (new_secret s caller new t) t payload) s).ids ≡ s.ids + 1
+ids_after s caller new t None = next_given s
+ids_after s caller new t (Some payload) = next_given s
+
+last_after : (s : State) (caller : Caller) (new : NewSecret) (t : ℕ) (payload : Option Payload) → IsNextApart s
+    → (after_effects (posted_effects (new_secret s caller new t) t payload) s).secrets ≡ s.secrets ++ with_any_payload t payload (new_secret s caller new t) ∷ []
+last_after s caller new t None apart = refl
+last_after s caller new t (Some payload) apart =
+    let row = new_secret s caller new t in last_changed row.id (with_payload t payload) row s.secrets (same_id row.id) apart
 
 pub is_posted : (s : State) (caller : Caller) (body : SecretBody) (t : ℕ) (done : Done) → posted s caller (Ok body) t ≡ Ok done → IsPosted s caller body t done
 is_posted s caller body t done is =
     let w = gave (wanted caller (Ok body) t) _ done is in
     let a = gave (granted caller SecretCreate None) _ w.0 w.1 in
-    let b = gave (checked_secret body t) _ w.0 a.2 in
-    let c = gave (without_payload b.0) _ w.0 b.2 in
-    let new : b.0 ≡ w.0 = new_same b.0 w.0 c.2 in
     let r = gave (within_quota s caller.project Secrets) _ done w.2 in
     let d = gave (only_if (has_id s) _) _ done r.2 in
     let same = done_same _ done d.2 in
     record {
       new = w.0;
-      checked = subst (λ (n : NewSecret). checked_secret body t ≡ Ok n) new b.1;
-      bare = subst (λ (n : NewSecret). n.payload ≡ None) new (no_payload b.0.payload (held (is_none b.0.payload) _ c.0 c.1));
+      checked = a.2;
       left = ltb-true s.ids (2 ^ 62) (held (has_id s) _ d.0 d.1);
-      ids = subst (λ (x : Done). (after_effects x.effects s).ids ≡ s.ids + 1) same (next_given s);
-      last = subst (λ (x : Done). (after_effects x.effects s).secrets ≡ s.secrets ++ new_secret s caller w.0 t ∷ []) same refl;
+      ids = subst (λ (x : Done). (after_effects x.effects s).ids ≡ s.ids + 1) same (ids_after s caller w.0 t w.0.payload);
+      last = λ apart.
+          subst (λ (x : Done). (after_effects x.effects s).secrets ≡ s.secrets ++ with_any_payload t w.0.payload (new_secret s caller w.0 t) ∷ []) same
+          (last_after s caller w.0 t w.0.payload apart);
     }

@@ -1,35 +1,15 @@
 -- The media types that a client accepts (RFC 9110 section 12.5.1), whatever weights it gives them.
-use Rattle.std.specs.Prelude.{ℕ, ◌==◌, Bool, true, ◌||◌, not, List, [], ◌∷◌, take, reverse, codes, Option, Some, None, if◌then◌else◌}
-use Rattle.std.specs.List.{list_any, prefix_len}
+use Rattle.std.specs.Prelude.{ℕ, Bool, true, ◌||◌, List, take, codes, Option, Some, None}
+use Rattle.std.specs.List.{list_any}
 use Rattle.std.specs.Str.{str_eq_ignore_ascii_case}
+use Rattle.httparse.specs.Grammar.{trim_ows}
+use Rattle.kms_elements.specs.Elements.{elements, length_before}
 use Rattle.kms_world.specs.declared.reply.Media2.{Media2}
 use Rattle.kms_world.specs.declared.reply.Media2.TheVariants.{Json, TextPlain, OctetStream}
 
--- a byte before the first element
-abbrev pub onto : ℕ → List (List ℕ) → List (List ℕ)
-onto b [] = (b ∷ []) ∷ []
-onto b (e ∷ es) = (b ∷ e) ∷ es
-
--- the texts between the commas
-abbrev pub elements : List ℕ → List (List ℕ)
-elements [] = [] ∷ []
-elements (b ∷ bytes) = if b == 44 then [] ∷ elements bytes else onto b (elements bytes)
-
--- how many bytes stand before the first one that is this
-abbrev pub length_before : ℕ → List ℕ → ℕ
-length_before end bytes = prefix_len (λ b. not (b == end)) bytes
-
--- without the spaces and tabs in front
-abbrev pub without_space : List ℕ → List ℕ
-without_space [] = []
-without_space (b ∷ bytes) = if (b == 32) || (b == 9) then without_space bytes else b ∷ bytes
-
-abbrev pub trimmed : List ℕ → List ℕ
-trimmed text = reverse (without_space (reverse (without_space text)))
-
 -- an element without its parameters, which follow a semicolon
 abbrev pub range_of : List ℕ → List ℕ
-range_of element = trimmed (take (length_before 59 element) element)
+range_of element = trim_ows (take (length_before 59 element) element)
 
 abbrev pub type_of : Media2 → List ℕ
 type_of Json = codes "application/json"

@@ -1,5 +1,5 @@
 -- The operations on access lists, of secrets and of containers.
-use Rattle.std.specs.Prelude.{ℕ, true, List, [], ◌∷◌, Option, Some, None, Result, Ok, is_some, if◌then◌else◌}
+use Rattle.std.specs.Prelude.{ℕ, true, List, [], ◌∷◌, Option, Some, None, Result, Ok}
 use Rattle.std.specs.Option.{unwrap_or}
 use Rattle.kms_policy.specs.Acl.{change_of}
 use Rattle.kms_policy.specs.Policy.{users_listed, has_project_access}

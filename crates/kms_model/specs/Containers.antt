@@ -96,13 +96,19 @@ is_member member other = same_text member.0 other.0 && is_id member.1 other.1
 abbrev pub names_secret : Id → Option (List ℕ) × Id → Bool
 names_secret id member = is_id id member.1
 
--- POST of a container
-abbrev pub container_posted : State → Caller → Result ContainerBody Refusal → ℕ → Result Done Refusal
-container_posted s caller body t = do
+-- the container that a body asks for, of a caller who may make one; the secrets that it names are there
+abbrev pub container_wanted : State → Caller → Result ContainerBody Refusal → ℕ → Result NewContainer Refusal
+container_wanted s caller body t = do
   may ← granted caller ContainerCreate None
   given ← body
   new ← checked_container given
   usable ← only_if (list_all (is_usable s caller t) new.secrets) NoObject
+  Ok new
+
+-- POST of a container
+abbrev pub container_posted : State → Caller → Result ContainerBody Refusal → ℕ → Result Done Refusal
+container_posted s caller body t = do
+  new ← container_wanted s caller body t
   room ← within_quota s caller.project Containers
   left ← only_if (has_id s) IdsSpent
   Ok (record { answer = Link 201 ContainerLink (next_id s); effects = ContainerPut (new_container s caller new t) ∷ [] })
@@ -119,16 +125,32 @@ container_deleted s caller id = do
   row ← container_for s caller ContainerDelete (any_container s id)
   Ok (record { answer = Empty 204; effects = Deleted row.id ∷ [] })
 
+-- the container takes one member more: it has fewer than 100, the secret is there and the caller's project's, the container is
+-- generic, and it doesn't name this secret yet
+abbrev pub takes_member : State → Caller → ContainerRow → Option (List ℕ) × Id → ℕ → Result (Unit {0}) Refusal
+takes_member s caller row member t = do
+  few ← only_if (nat_lt (length row.secrets) 100) (BadBody SecretRefs)
+  usable ← only_if (is_usable s caller t member) NoObject
+  generic ← only_if (is_generic row.kind) Conflict
+  only_if (not (list_any (names_secret member.1) row.secrets)) Conflict
+
+-- the container gives this member up: it has it, and is generic
+abbrev pub gives_up_member : ContainerRow → Option (List ℕ) × Id → Result (Unit {0}) Refusal
+gives_up_member row member = do
+  among ← only_if (list_any (is_member member) row.secrets) NoObject
+  only_if (is_generic row.kind) Conflict
+
+-- the members but for this one
+abbrev pub members_without : Option (List ℕ) × Id → List (Option (List ℕ) × Id) → List (Option (List ℕ) × Id)
+members_without member members = filter (λ m. not (is_member member m)) members
+
 -- POST of a member
 abbrev pub member_posted : State → Caller → Option Id → Result MemberBody Refusal → ℕ → Result Done Refusal
 member_posted s caller id body t = do
   row ← container_for s caller ContainerWrite (any_container s id)
   given ← body
   member ← checked_member given
-  few ← only_if (nat_lt (length row.secrets) 100) (BadBody SecretRefs)
-  usable ← only_if (is_usable s caller t member) NoObject
-  generic ← only_if (is_generic row.kind) Conflict
-  new ← only_if (not (list_any (names_secret member.1) row.secrets)) Conflict
+  takes ← takes_member s caller row member t
   Ok (record { answer = Link 201 ContainerLink row.id; effects = ContainerPut (with_members (row.secrets ++ member ∷ []) t row) ∷ [] })
 
 -- DELETE of a member
@@ -137,6 +159,5 @@ member_deleted s caller id body t = do
   row ← container_for s caller ContainerWrite (any_container s id)
   given ← body
   member ← checked_member given
-  among ← only_if (list_any (is_member member) row.secrets) NoObject
-  generic ← only_if (is_generic row.kind) Conflict
-  Ok (record { answer = Empty 204; effects = ContainerPut (with_members (filter (λ m. not (is_member member m)) row.secrets) t row) ∷ [] })
+  gives ← gives_up_member row member
+  Ok (record { answer = Empty 204; effects = ContainerPut (with_members (members_without member row.secrets) t row) ∷ [] })

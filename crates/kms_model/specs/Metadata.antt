@@ -1,5 +1,5 @@
 -- The operations on the metadata of secrets.
-use Rattle.std.specs.Prelude.{ℕ, Bool, not, List, [], ◌∷◌, ◌++◌, length, filter, find, nat_lt, Option, Some, None, option_and_then, Result, Ok}
+use Rattle.std.specs.Prelude.{ℕ, not, List, [], ◌∷◌, ◌++◌, length, filter, find, nat_lt, Option, option_and_then, Result, Ok}
 use Rattle.std.specs.Str.{bytes_eq}
 use Rattle.kms_secret.specs.Key.{key_of}
 use Rattle.kms_secret.specs.Metadata.{checked_metadata, checked_pair, has_key}

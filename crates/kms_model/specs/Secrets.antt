@@ -1,9 +1,9 @@
 -- The operations on secrets.
-use Rattle.std.specs.Prelude.{ℕ, ◌^◌, Bool, true, List, [], ◌∷◌, Option, Some, None, Result, Ok, nat_lt, option_and_then, if◌then◌else◌, is_none}
+use Rattle.std.specs.Prelude.{ℕ, ◌^◌, Bool, true, List, [], ◌∷◌, Option, Some, None, Result, Ok, nat_lt, option_and_then, if◌then◌else◌}
 use Rattle.kms_policy.specs.Policy.{Row}
 use Rattle.kms_secret.specs.Secret.{checked_secret}
 use Rattle.kms_secret.specs.declared.secret.NewSecret.{NewSecret}
-use Rattle.kms_world.specs.Effect.{SecretPut, Deleted}
+use Rattle.kms_world.specs.Effect.{Effect, SecretPut, PayloadPut, Deleted}
 use Rattle.kms_world.specs.Id.{id_at}
 use Rattle.kms_world.specs.LookUp.{secret_of, acl_of}
 use Rattle.kms_world.specs.Secret.{attributes_of}
@@ -13,11 +13,11 @@ use Rattle.kms_world.specs.declared.action.Action.TheVariants.{SecretCreate, Sec
 use Rattle.kms_world.specs.declared.id.Id.{Id}
 use Rattle.kms_world.specs.declared.caller.Caller.{Caller}
 use Rattle.kms_world.specs.declared.body.SecretBody.{SecretBody}
+use Rattle.kms_world.specs.declared.payload.Payload.{Payload}
 use Rattle.kms_world.specs.declared.quota.QuotaKind.TheVariants.{Secrets}
 use Rattle.kms_world.specs.declared.secret.SecretRow.{SecretRow}
-use Rattle.kms_world.specs.declared.refusal.Field.TheVariants.{Payload}
 use Rattle.kms_world.specs.declared.refusal.Refusal.{Refusal}
-use Rattle.kms_world.specs.declared.refusal.Refusal.TheVariants.{BadBody, IdsSpent, NotAcceptable}
+use Rattle.kms_world.specs.declared.refusal.Refusal.TheVariants.{IdsSpent, NotAcceptable}
 use Rattle.kms_world.specs.declared.answer.Answer.TheVariants.{Empty, Link, Secret}
 use Rattle.kms_world.specs.declared.answer.Link.TheVariants.{Secret as SecretLink}
 use Rattle.kms_world.specs.declared.reply.Media2.TheVariants.{Json}
@@ -80,18 +80,17 @@ new_secret s caller new t = record {
   metadata = [];
 }
 
--- payloads aren't taken yet
-abbrev pub without_payload : NewSecret → Result (Unit {0}) Refusal
-without_payload new = only_if (is_none new.payload) (BadBody Payload)
-
 -- the secret that a body asks for, of a caller who may make one
 abbrev pub wanted : Caller → Result SecretBody Refusal → ℕ → Result NewSecret Refusal
 wanted caller body t = do
   may ← granted caller SecretCreate None
   given ← body
-  new ← checked_secret given t
-  bare ← without_payload new
-  Ok new
+  checked_secret given t
+
+-- what happens where a new secret is posted, with the payload that its body has, if any
+abbrev pub posted_effects : SecretRow → (t : ℕ) → Option Payload → List Effect
+posted_effects row t None = SecretPut row ∷ []
+posted_effects row t (Some payload) = SecretPut row ∷ PayloadPut row.id t payload ∷ []
 
 -- POST of a secret
 abbrev pub posted : State → Caller → Result SecretBody Refusal → ℕ → Result Done Refusal
@@ -99,7 +98,7 @@ posted s caller body t = do
   new ← wanted caller body t
   room ← within_quota s caller.project Secrets
   left ← only_if (has_id s) IdsSpent
-  Ok (record { answer = Link 201 SecretLink (next_id s); effects = SecretPut (new_secret s caller new t) ∷ [] })
+  Ok (record { answer = Link 201 SecretLink (next_id s); effects = posted_effects (new_secret s caller new t) t new.payload })
 
 -- GET of a secret's attributes
 abbrev pub shown : State → Caller → Option Id → (accept : Option (List ℕ)) → ℕ → Result Done Refusal

@@ -1,13 +1,16 @@
 //! Laws of the plain key manager, as functions that do nothing.
 ghost use Rattle.std.specs.Prelude.{◌≡◌, ◌<◌, ◌≤◌, ◌+◌, ◌++◌, ◌∷◌, [], ℕ, ◌^◌, List, Some, None, Ok, Err, false};
+ghost use Rattle.std.specs.List.{AllByRecursion};
 ghost use Rattle.kms_model.specs.Ask.{answer_to, asked, state_after, stores};
 ghost use Rattle.kms_model.specs.Done.{Done};
-ghost use Rattle.kms_model.specs.Secrets.{live_secret, new_secret, posted, secret_for, secret_target};
+ghost use Rattle.kms_model.specs.Payloads.{with_any_payload};
+ghost use Rattle.kms_model.specs.Secrets.{live_secret, new_secret, next_id, posted, secret_for, secret_target};
 ghost use Rattle.kms_model.specs.Statuses.{HasStatus};
 ghost use Rattle.kms_policy.specs.Policy.{decision};
 ghost use Rattle.kms_secret.specs.Secret.{checked_secret};
 ghost use Rattle.kms_secret.specs.declared.secret.NewSecret.{NewSecret};
 ghost use Rattle.kms_world.specs.Effect.{after_effects};
+ghost use Rattle.kms_world.specs.Id.{is_id};
 ghost use Rattle.kms_world.specs.State.{State};
 ghost use Rattle.kms_world.specs.declared.action.Action.{Action};
 ghost use Rattle.kms_world.specs.declared.action.Rule.{Rule};
@@ -51,11 +54,11 @@ pub fn a_secret_is_found_before_it_expires()
     ensures live { (s : State) (id : Id) (t : ℕ) (row : SecretRow) (expiration : ℕ) → live_secret s (Some id) t ≡ Some row → row.expiration ≡ Some expiration → t < expiration }
 {}
 
-/// A secret that is posted has what its body asks for, and no payload; it goes last, under an id that was left, which is given
-/// with it.
+/// A secret that is posted has what its body asks for, with its payload, if it has one; it goes last, under an id that was left,
+/// which is given with it.
 pub fn a_posted_secret_takes_the_next_id()
-    ensures last { (s : State) (caller : Caller) (body : SecretBody) (t : ℕ) (done : Done) → posted s caller (Ok body) t ≡ Ok done
-        → (new : NewSecret) × (checked_secret body t ≡ Ok new) × (new.payload ≡ None) × ((after_effects done.effects s).secrets ≡ s.secrets ++ new_secret s caller new t ∷ []) }
+    ensures last { (s : State) (caller : Caller) (body : SecretBody) (t : ℕ) (done : Done) → AllByRecursion (λ (other : SecretRow). is_id (next_id s) other.id ≡ false) s.secrets → posted s caller (Ok body) t ≡ Ok done
+        → (new : NewSecret) × (checked_secret body t ≡ Ok new) × ((after_effects done.effects s).secrets ≡ s.secrets ++ with_any_payload t new.payload (new_secret s caller new t) ∷ []) }
     ensures ids { (s : State) (caller : Caller) (body : SecretBody) (t : ℕ) (done : Done) → posted s caller (Ok body) t ≡ Ok done → (after_effects done.effects s).ids ≡ s.ids + 1 }
     ensures left { (s : State) (caller : Caller) (body : SecretBody) (t : ℕ) (done : Done) → posted s caller (Ok body) t ≡ Ok done → s.ids < 2 ^ 62 }
 {}

@@ -2,8 +2,6 @@
 //! engine is proved equal to them.
 #![tactic(auto)]
 
-mod event;
+pub mod alike_laws;
 pub mod laws;
 pub mod payload_laws;
-
-pub use event::{Event, Mark};
