@@ -1,6 +1,6 @@
 -- Access lists that are put are in the range of a record.
-use Rattle.std.proofs.Common.{◌≡◌, ℕ, ◌≤◌, ◌<◌, ◌&&◌, Bool, true, false, List, [], ◌∷◌, length, Option, Some, None, Result, Ok, Err, cond, refl, sym, ap, subst, arith, unwrap_or, not}
-use Rattle.std.specs.Prelude.{IfSome, filter}
+use Rattle.std.proofs.Common.{◌≡◌, ℕ, ◌≤◌, ◌<◌, Bool, true, false, List, [], ◌∷◌, length, Option, Some, None, Result, Ok, Err, cond, refl, sym, subst, arith, unwrap_or, not}
+use Rattle.std.specs.Prelude.{IfSome}
 use Rattle.std.specs.List.{AllByRecursion, list_all}
 use Rattle.std.specs.Str.{bytes_eq}
 use Rattle.std.proofs.lemmas.Bool.{and_parts, leb-true}
@@ -8,7 +8,7 @@ use Rattle.kms_kept.proofs.KeptLists.{all_filter}
 use Rattle.kms_kept.specs.Kept.{Kept}
 use Rattle.kms_kept.specs.OfGrammar.{IsAcl}
 use Rattle.kms_model.specs.AccessLists.{created_by, list_put, list_patched}
-use Rattle.kms_policy.specs.Acl.{are_users, change_by, change_of, change_to, without, without_repeats}
+use Rattle.kms_policy.specs.Acl.{are_users, change_by, change_of, change_to, without_repeats}
 use Rattle.kms_policy.specs.Policy.{users_listed}
 use Rattle.kms_policy.specs.declared.acl.AclChange.{AclChange}
 use Rattle.kms_record.specs.Acl.{AreUsersInRange, IsUserInRange}

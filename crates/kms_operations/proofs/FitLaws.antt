@@ -1,5 +1,5 @@
 -- Changes that apply to what is kept, and can be recorded.
-use Rattle.std.proofs.Common.{◌≡◌, ℕ, ◌==◌, ◌^◌, ◌<◌, ◌||◌, Bool, true, List, Option, Some, refl, sym, ap, subst, ◌∙◌, arith}
+use Rattle.std.proofs.Common.{◌≡◌, ℕ, ◌==◌, ◌^◌, ◌<◌, ◌||◌, true, List, Option, Some, refl, sym, ap, subst, ◌∙◌, arith}
 use Rattle.std.specs.Prelude.{IfSome, None, is_some, nat_lt}
 use Rattle.std.specs.List.{list_any}
 use Rattle.std.proofs.lemmas.Bool.{and_from, eq-eqb, le-leb, or_left}
@@ -12,7 +12,7 @@ use Rattle.kms_record.specs.declared.change.Change.{Change}
 use Rattle.kms_record.specs.declared.change.Change.TheVariants.{SecretPut, MetadataPut, AclPut, AclDropped, Deleted}
 use Rattle.kms_record.specs.declared.secret_put.SecretPut as put_type
 use Rattle.kms_store.specs.KeptSecret.{without_number}
-use Rattle.kms_world.specs.Id.{id_at, is_id}
+use Rattle.kms_world.specs.Id.{is_id}
 use Rattle.kms_world.specs.LookUp.{secret_of, container_of, acl_of}
 use Rattle.kms_world.specs.Times.{end_of_times}
 use Rattle.kms_world.specs.declared.acl.AclRow.{AclRow}
@@ -23,7 +23,7 @@ use Rattle.kms_operations.specs.Found.{IsKeptSecret, IsTarget}
 use Rattle.kms_operations.specs.Outcome.{Fits}
 use Rattle.kms_operations.proofs.FoundLaws.{found_any}
 
-count_fits : (id : Id) → count_of id < 2 ^ 62
+pub count_fits : (id : Id) → count_of id < 2 ^ 62
 count_fits id = omega arith
 
 pub secret_fits : (kept : Kept) (put : put_type.SecretPut) → IsInRange put → put.id ≡ kept.state.ids → Fits kept (SecretPut put)

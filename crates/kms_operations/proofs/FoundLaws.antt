@@ -8,10 +8,9 @@ use Rattle.std.proofs.lemmas.Bool.{or_left, or_right}
 use Rattle.kms_kept.specs.Kept.{Kept}
 use Rattle.kms_kept.specs.OfGrammar.{IsSecret, IsContainer, IsAcl}
 use Rattle.kms_kept.specs.Sound.{IsSound}
-use Rattle.kms_record.specs.Base.{count_of}
 use Rattle.kms_model.proofs.SecretLaws.{found_passes, one_id}
 use Rattle.kms_store.specs.KeptSecret.{token_alone, without_number}
-use Rattle.kms_world.specs.Id.{id_at, is_id}
+use Rattle.kms_world.specs.Id.{is_id}
 use Rattle.kms_world.specs.LookUp.{secret_of, container_of, acl_of}
 use Rattle.kms_world.specs.Secret.{attributes_of, without_bytes}
 use Rattle.kms_world.specs.Times.{IsTime, IsTimely, IsTimelyAcl, IsTimelyContainer, IsTimelyIfAny, end_of_times}
@@ -51,7 +50,7 @@ kept_secret kept id row sound found =
       is = subst (λ (x : Option SecretRow). IfSome x (IsSecret kept.state.tag)) (sym found) (found_is (IsSecret kept.state.tag) test kept.state.secrets sound.grammar.secrets);
     }
 
-is_time : (t : Option ℕ) → IfSome t (λ n. n < end_of_times) → IsTime t
+pub is_time : (t : Option ℕ) → IfSome t (λ n. n < end_of_times) → IsTime t
 is_time None fits = tt
 is_time (Some n) fits = fits
 
@@ -74,9 +73,11 @@ pub kept_container : (kept : Kept) (id : Id) (row : ContainerRow) → IsSound ke
 kept_container kept id row sound found =
     let test = λ (r : ContainerRow). is_id id r.id in
     let named : row.id ≡ id = one_id id row.id (found_passes test kept.state.containers row (sym found)) in
+    let is : IsContainer kept.state.tag row = subst (λ (x : Option ContainerRow). IfSome x (IsContainer kept.state.tag)) (sym found) (found_is (IsContainer kept.state.tag) test kept.state.containers sound.grammar.containers) in
     record {
+      id = ap (λ (r : ContainerRow). r.id) is.put;
       here = subst (λ (i : Id). container_of i kept.state.containers ≡ Some row) (sym named) (sym found);
-      is = subst (λ (x : Option ContainerRow). IfSome x (IsContainer kept.state.tag)) (sym found) (found_is (IsContainer kept.state.tag) test kept.state.containers sound.grammar.containers);
+      is = is;
     }
 
 pub timely_container : (kept : Kept) (row : ContainerRow) → IsKeptContainer kept row → IsTimelyContainer row
@@ -88,7 +89,7 @@ pub secret_target_is : (kept : Kept) (row : SecretRow) → IsKeptSecret kept row
 secret_target_is kept row is = record { there = or_left _ _ (ap is_some is.here); is = is.is.id }
 
 pub container_target_is : (kept : Kept) (row : ContainerRow) → IsKeptContainer kept row → IsTarget kept row.id
-container_target_is kept row is = record { there = or_right _ _ (ap is_some is.here); is = ap (λ (r : ContainerRow). r.id) is.is.put }
+container_target_is kept row is = record { there = or_right _ _ (ap is_some is.here); is = is.id }
 
 pub kept_acl : (kept : Kept) (target : Id) (row : AclRow) → IsSound kept → Some row ≡ acl_of target kept.state.acls → IsAcl kept.state.tag row
 kept_acl kept target row sound found =
@@ -111,7 +112,7 @@ pub acl_if_any : (kept : Kept) (target : Id) (found : Option AclRow) → IsSound
 acl_if_any kept target None sound is = tt
 acl_if_any kept target (Some row) sound is = kept_acl kept target row sound is
 
-some_same : {X : Type 0} (x y : X) → (let o : Option X = Some x in let p : Option X = Some y in o ≡ p) → x ≡ y
+pub some_same : {X : Type 0} (x y : X) → (let o : Option X = Some x in let p : Option X = Some y in o ≡ p) → x ≡ y
 some_same x y is = cc
 
 -- what holds of what was found holds of it once it is there

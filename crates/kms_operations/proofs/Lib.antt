@@ -1,6 +1,10 @@
 pub mod AclLaws
-pub mod ElementLaws
+pub mod ConsumerLaws
+pub mod ContainerLaws
 pub mod FitLaws
 pub mod FoundLaws
+pub mod ListLaws
+pub mod MemberLaws
 pub mod PairLaws
+pub mod PayloadLaws
 pub mod QuotaLaws

@@ -1,9 +1,8 @@
 -- Quotas as they are kept, counted and put.
-use Rattle.std.proofs.Common.{◌≡◌, ℕ, ◌≤◌, ◌&&◌, Bool, true, false, List, [], ◌∷◌, length, Option, Some, None, Result, Ok, Err, cond, refl, sym, ap, subst, ◌∙◌, arith, not}
-use Rattle.std.specs.Prelude.{IfSome, filter, find, option_map, is_some, ℤ, pos, negsuc}
-use Rattle.std.specs.List.{AllByRecursion, list_any}
+use Rattle.std.proofs.Common.{◌≡◌, ℕ, Bool, true, false, List, [], ◌∷◌, length, Option, Some, None, Result, Ok, Err, cond, refl, sym, ap, subst, ◌∙◌, arith, not}
+use Rattle.std.specs.Prelude.{IfSome, filter, option_map, is_some, ℤ, pos, negsuc}
 use Rattle.std.specs.Str.{bytes_eq}
-use Rattle.std.proofs.lemmas.Bool.{and_from, and_parts, le-leb, leb-true}
+use Rattle.std.proofs.lemmas.Bool.{and_parts, le-leb, leb-true}
 use Rattle.kms_kept.specs.Kept.{Kept, has}
 use Rattle.kms_kept.specs.OfGrammar.{IsQuota}
 use Rattle.kms_kept.specs.Sound.{IsSound}

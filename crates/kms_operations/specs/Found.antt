@@ -27,6 +27,7 @@ pub record IsKeptSecret (kept : Kept) (row : SecretRow) : Type 0 where
 -- the container is kept, under its id, and is one of the grammar
 pub record IsKeptContainer (kept : Kept) (row : ContainerRow) : Type 0 where
   pub here : container_of row.id kept.state.containers ≡ Some row
+  pub id : id_at kept.state.tag (count_of row.id) ≡ row.id
   pub is : IsContainer kept.state.tag row
 
 -- a secret or a container is kept under this id

@@ -2,3 +2,5 @@ pub mod Change
 pub mod Found
 pub mod Outcome
 pub mod Pairs
+pub mod Places
+pub mod Plan

@@ -5,7 +5,7 @@ use Rattle.kms_model.specs.Done.{Done}
 use Rattle.kms_record.specs.ChangeEffect.{effect_of}
 use Rattle.kms_record.specs.Grammar.{IsChangeInRange}
 use Rattle.kms_record.specs.declared.change.Change.{Change}
-use Rattle.kms_record.specs.declared.change.Change.TheVariants.{KeyAdded, KeyRewrapped, TokenReplaced, KeyDropped}
+use Rattle.kms_record.specs.declared.change.Change.TheVariants.{KeyAdded, KeyRewrapped, TokenReplaced, KeyDropped, PayloadPut}
 use Rattle.kms_world.specs.Effect.{Effect}
 use Rattle.kms_world.specs.Times.{HasTimes}
 use Rattle.kms_world.specs.declared.refusal.CheckFault.{CheckFault}
@@ -27,12 +27,13 @@ Comes tag (Ok outcome) done = done ≡ Ok (done_of tag outcome)
 Comes tag (Err (Refused refusal)) done = done ≡ Err refusal
 Comes tag (Err NoMemory) done = Unit {0}
 
--- it changes rows, and no key and no token
+-- it changes rows, and puts no key and no token
 abbrev pub is_of_rows : Change → Bool
 is_of_rows (KeyAdded key) = false
 is_of_rows (KeyRewrapped key) = false
 is_of_rows (TokenReplaced put) = false
 is_of_rows (KeyDropped key) = false
+is_of_rows (PayloadPut put) = false
 is_of_rows change = true
 
 -- The change of rows applies to what is kept, and can be recorded.

@@ -1,5 +1,5 @@
 -- Pairs of metadata in the order of their keys.
-use Rattle.std.specs.Prelude.{◌≡◌, ◌⊎◌, ℕ, List, All, IsTrue}
+use Rattle.std.specs.Prelude.{ℕ, List, All, IsTrue}
 use Rattle.kms_world.specs.Pairs.{is_below}
 
 -- the pair comes after all of these

@@ -2,9 +2,10 @@
 ghost use Rattle.std.specs.Prelude.{◌≡◌, Some, None, option_map, option_copied};
 ghost use Rattle.kms_policy.specs.Policy.{row_of};
 ghost use Rattle.kms_model.specs.Containers.{container_target};
-ghost use Rattle.kms_model.specs.Permission.{granted};
+ghost use Rattle.kms_model.specs.Permission.{granted, may};
 ghost use Rattle.kms_model.specs.Secrets.{secret_target};
 ghost use Rattle.kms_world.specs.Checked.{IsUnlessNoMemory};
+ghost use Rattle.kms_world.specs.declared.action.Action.TheVariants.{SecretGet, ContainerGet};
 
 use kms_policy::{Target, decide};
 use kms_store::Tables;
@@ -59,4 +60,28 @@ pub fn granted_on_container(
         acl: rows.acl(row.id),
     };
     granted_on(caller, action, Some(&target))
+}
+
+// Whether the policy lets the caller get the secret.
+pub fn may_get_secret(rows: &Tables, caller: &Caller, row: &SecretRow) -> bool
+    ensures { result ≡ may caller.now SecretGet (Some (secret_target rows.now.kept.state row.now)) }
+{
+    let target = Target {
+        project: row.project,
+        creator: row.creator,
+        acl: rows.acl(row.id),
+    };
+    decide(caller, Action::SecretGet, Some(&target)).is_ok()
+}
+
+// Whether the policy lets the caller get the container.
+pub fn may_get_container(rows: &Tables, caller: &Caller, row: &ContainerRow) -> bool
+    ensures { result ≡ may caller.now ContainerGet (Some (container_target rows.now.kept.state row.now)) }
+{
+    let target = Target {
+        project: row.project,
+        creator: row.creator,
+        acl: rows.acl(row.id),
+    };
+    decide(caller, Action::ContainerGet, Some(&target)).is_ok()
 }

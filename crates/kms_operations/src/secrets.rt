@@ -1,30 +1,38 @@
 // Operations on secrets.
-ghost use Rattle.std.specs.Prelude.{◌≡◌, ◌<◌, IfOk, IfSome, Some, Ok, option_copied};
+ghost use Rattle.std.specs.Prelude.{◌≡◌, ◌<◌, true, IfOk, IfSome, Result, Some, Ok, option_copied};
 ghost use Rattle.std.specs.Option.{ForSome};
+ghost use Rattle.kms_kept.specs.Kept.{Kept};
+ghost use Rattle.kms_model.specs.Done.{Done};
 ghost use Rattle.kms_model.specs.Secrets as spec;
+ghost use Rattle.kms_model.specs.Secrets.{posted_effects};
 ghost use Rattle.kms_operations.specs.Found.{Finds, IsKeptSecret};
 ghost use Rattle.kms_operations.specs.Outcome.{Comes, IsPossible};
-ghost use Rattle.kms_secret.specs.Ranges.{IsSecretInRange};
+ghost use Rattle.kms_operations.specs.Plan.{Plans, IsPlanned, shows_none};
+ghost use Rattle.kms_record.specs.SecretPut.{IsInRange, row_of};
+ghost use Rattle.kms_secret.specs.Ranges.{IsPayloadInRange, IsSecretInRange};
 ghost use Rattle.kms_world.specs.Checked.{IsUnlessNoMemory};
 ghost use Rattle.kms_world.specs.Secret.{attributes_of};
+ghost use Rattle.kms_world.specs.State.{State};
+ghost use Rattle.kms_world.specs.Times.{HasTimes};
+ghost use Rattle.kms_world.specs.declared.refusal.Refusal.{Refusal};
 
-use crate::Outcome;
 use crate::accept::admits;
 use crate::body::given;
 use crate::count::{count_of, has_id};
 use crate::names::names_fit;
 use crate::permission::{granted, granted_on_secret};
 use crate::quotas::within_quota;
+use crate::{NewPayload, Outcome, Plan};
 use kms_record::{Change, SecretPut};
 use kms_secret::{NewSecret, check_secret};
 use kms_store::{KeptSecret, Tables};
 use kms_world::{
-    Action, Answer, Caller, CheckFault, Field, Id, Link, Media2, QuotaKind, Refusal, SecretBody,
+    Action, Answer, Caller, CheckFault, Id, Link, Media2, Payload, QuotaKind, Refusal, SecretBody,
     SecretRow, Text, id_of,
 };
 use std::alloc::Global;
 
-fn is_live(moment: u64, expiration: Option<u64>) -> bool
+pub fn is_live(moment: u64, expiration: Option<u64>) -> bool
     ensures { result ≡ spec.is_live moment expiration }
 {
     match expiration {
@@ -83,11 +91,29 @@ fn wanted(
     granted(caller, Action::SecretCreate)?;
     let body = given(body)?;
     let new = check_secret(alloc, &body, moment)?;
-    // Payloads aren't taken yet.
-    if !new.payload.is_none() {
-        return Err(CheckFault::Refused(Refusal::BadBody(Field::Payload)));
-    }
     Ok(new)
+}
+
+// What a new secret comes to that is put so: with the payload that it has, if any.
+fn posting(answer: Answer, put: SecretPut, payload: Option<Payload>) -> Plan
+    ensures plans { (s : State) (done : Result Done Refusal) → done ≡ Ok (record { answer = answer; effects = posted_effects (row_of s.tag put) put.updated payload }) → Plans s (Ok result) done }
+    ensures planned { (kept : Kept) → HasTimes answer → IsInRange put → put.id ≡ kept.state.ids → IfSome payload IsPayloadInRange → IsPlanned kept result }
+    ensures shows { shows_none result ≡ true }
+{
+    match payload {
+        None => Plan::Makes(Outcome {
+            answer,
+            change: Some(Change::SecretPut(put)),
+        }),
+        Some(payload) => Plan::Puts(NewPayload {
+            answer,
+            id: put.id,
+            updated: put.updated,
+            project: put.project,
+            secret: Some(put),
+            payload,
+        }),
+    }
 }
 
 pub fn posted(
@@ -96,10 +122,11 @@ pub fn posted(
     caller: &Caller,
     body: Result<SecretBody, Refusal>,
     moment: u64,
-) -> Result<Outcome, CheckFault>
+) -> Result<Plan, CheckFault>
     requires time { moment < 253402300800 }
-    ensures comes { Comes rows.now.kept.state.tag result (spec.posted rows.now.kept.state caller.now body moment) }
-    ensures possible { IfOk result (IsPossible rows.now.kept) }
+    ensures plans { Plans rows.now.kept.state result (spec.posted rows.now.kept.state caller.now body moment) }
+    ensures planned { IfOk result (IsPlanned rows.now.kept) }
+    ensures shows { IfOk result (λ plan. shows_none plan ≡ true) }
 {
     let new = wanted(alloc, caller, body, moment)?;
     within_quota(rows, &caller.project, QuotaKind::Secrets)?;
@@ -120,14 +147,12 @@ pub fn posted(
         expiration: new.expiration,
     };
     names_fit(caller);
-    Ok(Outcome {
-        answer: Answer::Link {
-            status: 201,
-            link: Link::Secret,
-            id: id_of(rows.tag(), rows.ids()),
-        },
-        change: Some(Change::SecretPut(put)),
-    })
+    let answer = Answer::Link {
+        status: 201,
+        link: Link::Secret,
+        id: id_of(rows.tag(), rows.ids()),
+    };
+    Ok(posting(answer, put, new.payload))
 }
 
 // The attributes of a secret, without what is kept of its payload.
