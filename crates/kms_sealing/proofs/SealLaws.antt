@@ -14,11 +14,14 @@ use Rattle.kms_ring.proofs.UniqueLaws.{wrapped_unwraps}
 use Rattle.kms_world.specs.Effect as effects
 use Rattle.kms_world.specs.Effect.{Effect, after_effects}
 use Rattle.kms_world.specs.Id.{id_at}
+use Rattle.kms_world.specs.LookUp.{secret_of}
 use Rattle.kms_world.specs.State.{State}
 use Rattle.kms_world.specs.declared.payload.Payload.{Payload}
+use Rattle.kms_world.specs.declared.secret.SecretRow.{SecretRow}
 use Rattle.kms_record.specs.Fields.{IsToken as HasTokenLength}
 use Rattle.kms_record.specs.SecretPut.{row_of}
-use Rattle.kms_record.specs.declared.change.Change.TheVariants.{KeyAdded}
+use Rattle.kms_record.specs.declared.change.Change.{Change}
+use Rattle.kms_record.specs.declared.change.Change.TheVariants.{KeyAdded, PayloadPut}
 use Rattle.kms_record.specs.declared.key.WrappedKey.{WrappedKey}
 use Rattle.kms_record.specs.declared.secret_put.SecretPut.{SecretPut}
 use Rattle.kms_kept.specs.Kept.{Kept, Records, changed, is_key, is_key_below, insert_key, key_of}
@@ -28,7 +31,7 @@ use Rattle.kms_opened.specs.Steps.{HaveEffects, LeadTo, posted_changes}
 use Rattle.kms_opened.proofs.OpenLaws.{changes_open}
 use Rattle.kms_opened.proofs.StepLaws.{posted_have, key_have}
 use Rattle.kms_sealing.specs.Places.{has_key}
-use Rattle.kms_sealing.specs.Sealed.{wrapped_row, rows_with, IsSealedUnder, IsSealedFirst, Adds, key_changes, post_changes}
+use Rattle.kms_sealing.specs.Sealed.{wrapped_row, rows_with, IsSealedUnder, IsSealedFirst, Adds, key_changes, post_changes, put_changes}
 use Rattle.kms_sealing.specs.declared.drawing.KeyDraw.{KeyDraw}
 use Rattle.kms_sealing.specs.declared.sealing.NewKey.{NewKey}
 use Rattle.kms_sealing.specs.declared.sealing.Sealed.{Sealed}
@@ -171,3 +174,38 @@ unfolding put_effects
 posted_leads masters kept state put sealed payload o rising next left adds opens =
     changes_open masters Records (post_changes sealed put payload.media) kept (effects.SecretPut (row_of kept.state.tag put) ∷ effects.PayloadPut (id_at kept.state.tag put.id) put.updated payload ∷ []) state o rising
     (step_has masters kept rising put sealed.number sealed.token payload next left sealed.new adds opens)
+
+-- ---- the payload of a secret that is there
+
+module _ (masters : List (List ℕ)) (kept : Kept) (row : SecretRow) (secret updated number : ℕ) (token : List ℕ) (payload : Payload) (found : secret_of (id_at kept.state.tag secret) kept.state.secrets ≡ Some row) (none : row.payload ≡ None) where
+  token_put : Change
+  token_put = PayloadPut (record { secret = secret; updated = updated; media = payload.media; number = number; token = token })
+
+  bytes_put : List Effect
+  bytes_put = effects.PayloadPut (id_at kept.state.tag secret) updated payload ∷ []
+
+  token_has : (keys : List WrappedKey) → OpensUnder masters keys row.project number token payload.bytes → HaveEffects masters Records (record kept { keys = keys }) (token_put ∷ []) bytes_put
+  unfolding token_put bytes_put
+  token_has keys opens = (
+    Some (effects.PayloadPut (id_at kept.state.tag secret) updated payload),
+    [],
+    rw (found, none, opens.there) refl,
+    (row, found, payload.bytes, opens, refl),
+    refl,
+    refl,
+  )
+
+  put_has : (new : Option NewKey) → Adds masters kept row.project new → OpensUnder masters (rows_with new kept.keys) row.project number token payload.bytes
+      → HaveEffects masters Records kept (key_changes new ++ token_put ∷ []) bytes_put
+  put_has None adds opens = token_has kept.keys opens
+  put_has (Some new) adds opens =
+      key_have masters kept (wrapped_row new) (token_put ∷ []) bytes_put adds.applies_to (record { key = new.key; opens = adds.opens }) (token_has (insert_key (wrapped_row new) kept.keys) opens)
+
+pub put_leads : (masters : List (List ℕ)) (kept : Kept) (state : State) (row : SecretRow) (secret updated : ℕ) (sealed : Sealed) (payload : Payload) → Opened masters kept state → IsRising kept.state
+    → secret_of (id_at kept.state.tag secret) kept.state.secrets ≡ Some row → row.payload ≡ None → Adds masters kept row.project sealed.new
+    → OpensUnder masters (rows_with sealed.new kept.keys) row.project sealed.number sealed.token payload.bytes
+    → LeadTo masters Records (put_changes sealed secret updated payload.media) kept (after_effects (effects.PayloadPut (id_at kept.state.tag secret) updated payload ∷ []) state)
+unfolding token_put bytes_put
+put_leads masters kept state row secret updated sealed payload o rising found none adds opens =
+    changes_open masters Records (put_changes sealed secret updated payload.media) kept (effects.PayloadPut (id_at kept.state.tag secret) updated payload ∷ []) state o rising
+    (put_has masters kept row secret updated sealed.number sealed.token payload found none sealed.new adds opens)

@@ -4,7 +4,7 @@ use Rattle.kms_fernet.specs.Token.{IsToken}
 use Rattle.kms_ring.specs.Ring.{IsUnwrapped, IsWrapped}
 use Rattle.kms_world.specs.declared.payload.Media.{Media}
 use Rattle.kms_record.specs.declared.change.Change.{Change}
-use Rattle.kms_record.specs.declared.change.Change.TheVariants.{KeyAdded}
+use Rattle.kms_record.specs.declared.change.Change.TheVariants.{KeyAdded, PayloadPut}
 use Rattle.kms_record.specs.declared.key.WrappedKey.{WrappedKey}
 use Rattle.kms_record.specs.declared.secret_put.SecretPut.{SecretPut as Put}
 use Rattle.kms_kept.specs.Kept.{Kept, Records, applies, insert_key}
@@ -70,3 +70,8 @@ key_changes (Some new) = KeyAdded (wrapped_row new) ∷ []
 -- a new secret with its payload: the project's new key, if it gets one, comes first
 abbrev pub post_changes : Sealed → Put → Media → List Change
 post_changes sealed put media = key_changes sealed.new ++ posted_changes put put.updated sealed.number media sealed.token
+
+-- the payload of a secret that is there: the project's new key, if it gets one, comes first
+abbrev pub put_changes : Sealed → (secret updated : ℕ) → Media → List Change
+put_changes sealed secret updated media =
+    key_changes sealed.new ++ PayloadPut (record { secret = secret; updated = updated; media = media; number = sealed.number; token = sealed.token }) ∷ []

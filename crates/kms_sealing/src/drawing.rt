@@ -1,12 +1,12 @@
 // Random bytes for a payload.
-ghost use Rattle.std.specs.Prelude.{◌≡◌, not, is_some, IfOk};
+ghost use Rattle.std.specs.Prelude.{◌≡◌, not, length, is_some, IfOk};
 ghost use Rattle.kms_host.specs.Faults.{HasCause};
 ghost use Rattle.kms_host.specs.History.{Tells, Stops, answer, then_call};
 ghost use Rattle.kms_host.specs.Moment.{Since};
 ghost use Rattle.kms_host.specs.declared.call.Call.TheVariants as calls;
 ghost use Rattle.kms_host.specs.declared.call.Count.TheVariants as counts;
 ghost use Rattle.kms_host.specs.declared.call.Purpose.TheVariants as purposes;
-ghost use Rattle.kms_sealing.specs.Drawing.{Draws, DrawsKey};
+ghost use Rattle.kms_sealing.specs.Drawing.{AreSealingDraws, Draws, DrawsKey};
 ghost use Rattle.kms_sealing.specs.Places.{has_key};
 
 use crate::places::latest;
@@ -32,6 +32,7 @@ pub struct Drawn {
 
 fn draw_iv<H: Host>(host: &mut H) -> Result<[u8; 16], Failed>
     ensures told { Tells (H.history host.old) (H.history host.new) (λ was now. now ≡ then_call was (calls.Drew purposes.Iv (answer result))) }
+    ensures size { IfOk result (λ iv. length iv ≡ 16) }
     ensures cause { HasCause counts.Draw (H.faults host.old) (H.faults host.new) result }
     ensures stops { Stops (H.wanted host.old) (H.wanted host.new) (H.history host.old) (H.history host.new) }
 {
@@ -42,6 +43,7 @@ fn draw_iv<H: Host>(host: &mut H) -> Result<[u8; 16], Failed>
 
 fn draw_bytes<H: Host>(host: &mut H) -> Result<[u8; 32], Failed>
     ensures told { Tells (H.history host.old) (H.history host.new) (λ was now. now ≡ then_call was (calls.Drew purposes.ProjectKey (answer result))) }
+    ensures size { IfOk result (λ key. length key ≡ 32) }
     ensures cause { HasCause counts.Draw (H.faults host.old) (H.faults host.new) result }
     ensures stops { Stops (H.wanted host.old) (H.wanted host.new) (H.history host.old) (H.history host.new) }
 {
@@ -53,7 +55,7 @@ fn draw_bytes<H: Host>(host: &mut H) -> Result<[u8; 32], Failed>
 // What a project's key needs, if it needs one.
 fn draw_key<H: Host>(host: &mut H, needed: bool) -> Result<Option<KeyDraw>, Failed>
     ensures needed { IfOk result (λ key. is_some key ≡ needed) }
-    ensures told { Since (H.history host.old) (H.history host.new) (λ was calls. DrawsKey needed result calls) }
+    ensures told { Since (H.history host.old) (H.history host.new) (λ was calls. DrawsKey needed result calls × AreSealingDraws calls) }
     ensures cause { HasCause counts.Draw (H.faults host.old) (H.faults host.new) result }
     ensures stops { Stops (H.wanted host.old) (H.wanted host.new) (H.history host.old) (H.history host.new) }
 {
@@ -74,7 +76,7 @@ fn draw_key<H: Host>(host: &mut H, needed: bool) -> Result<Option<KeyDraw>, Fail
 /// only where a draw failed.
 pub fn draw<H: Host>(host: &mut H, tables: &Tables, project: &Name) -> Result<Drawn, Failed>
     ensures needed { IfOk result (λ drawn. is_some drawn.key ≡ not (has_key project.now tables.now.kept.keys)) }
-    ensures told { Since (H.history host.old) (H.history host.new) (λ was calls. Draws (not (has_key project.now tables.now.kept.keys)) result calls) }
+    ensures told { Since (H.history host.old) (H.history host.new) (λ was calls. Draws (not (has_key project.now tables.now.kept.keys)) result calls × AreSealingDraws calls) }
     ensures cause { HasCause counts.Draw (H.faults host.old) (H.faults host.new) result }
     ensures stops { Stops (H.wanted host.old) (H.wanted host.new) (H.history host.old) (H.history host.new) }
 {

@@ -12,6 +12,8 @@ mod places;
 mod project_keys;
 mod sealing;
 mod step;
+#[cfg(test)]
+mod tests;
 
 pub use drawing::{Drawn, KeyDraw, draw};
 pub use fault::{KeyFileFault, OpeningFault};

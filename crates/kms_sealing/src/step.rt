@@ -1,9 +1,9 @@
 // The changes that put a sealed payload.
-ghost use Rattle.std.specs.Prelude.{◌≡◌, IfOk, IfSome, length};
+ghost use Rattle.std.specs.Prelude.{◌≡◌, ◌<◌, ◌^◌, IfOk, IfSome, length};
 ghost use Rattle.kms_record.specs.Fields.{IsToken as HasTokenLength};
 ghost use Rattle.kms_record.specs.Grammar.{IsStepInRange};
 ghost use Rattle.kms_record.specs.SecretPut.{IsInRange};
-ghost use Rattle.kms_sealing.specs.Sealed.{key_changes, post_changes};
+ghost use Rattle.kms_sealing.specs.Sealed.{key_changes, post_changes, put_changes};
 
 use crate::{NewKey, Sealed};
 use kms_record::{Change, PayloadPut, SecretPut, Step};
@@ -39,6 +39,33 @@ impl Sealed {
             token: self.token,
         };
         step.push(Change::SecretPut(put))?;
+        step.push(Change::PayloadPut(payload))?;
+        Ok(step)
+    }
+
+    /// The step that puts this payload of a secret that is there, whose id has this count below 2^62, at a time in seconds since
+    /// 1970 before the year 10000, and before it the project's new key, if that gets one.
+    pub fn put(
+        self,
+        alloc: Global,
+        secret: u64,
+        updated: u64,
+        media: Media,
+    ) -> Result<Step, NoMemory>
+        requires secret { secret < 2 ^ 62 }
+        requires updated { updated < 253402300800 }
+        requires token { HasTokenLength self.token }
+        ensures changes { IfOk result (λ step. step ≡ put_changes self secret updated media) }
+        ensures range { IfOk result IsStepInRange }
+    {
+        let mut step = key_step(alloc, &self.new)?;
+        let payload = PayloadPut {
+            secret,
+            updated,
+            media,
+            number: self.number,
+            token: self.token,
+        };
         step.push(Change::PayloadPut(payload))?;
         Ok(step)
     }
