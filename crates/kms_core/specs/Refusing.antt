@@ -5,11 +5,13 @@ use Rattle.kms_journal.specs.declared.chain.Chain.{Chain}
 use Rattle.kms_journal.specs.declared.fault.JournalFault.{JournalFault}
 use Rattle.kms_journal.specs.declared.fault.JournalFault.TheVariants as journal
 use Rattle.kms_journal.specs.declared.fault.Place.TheVariants.{Body}
+use Rattle.kms_sealing.specs.declared.fault.OpeningFault.{OpeningFault}
+use Rattle.kms_sealing.specs.declared.fault.OpeningFault.TheVariants as opening
 use Rattle.kms_store.specs.Loading.{IsBrokenAt, LeadsChain}
 use Rattle.kms_store.specs.declared.load_fault.LoadFault.{LoadFault}
 use Rattle.kms_store.specs.declared.load_fault.LoadFault.TheVariants as load
 use Rattle.kms_core.specs.declared.start_fault.StartFault.{StartFault}
-use Rattle.kms_core.specs.declared.start_fault.StartFault.TheVariants.{NoStore, Damaged, StoreFault, NoMemory}
+use Rattle.kms_core.specs.declared.start_fault.StartFault.TheVariants.{NoStore, Damaged, UnknownMaster, DamagedPayload, StoreFault, NoMemory}
 
 -- the first damage of a chain that stops at this place and isn't whole
 abbrev pub IsFirstDamage : Chain → ℕ → ℕ → Type 0
@@ -26,3 +28,9 @@ Refuses (journal.Damaged (Body file stop) chain) fault =
 abbrev pub fault_of : Chain → LoadFault → StartFault
 fault_of chain (load.Damaged at) = Damaged (Body chain.file at)
 fault_of chain load.NoMemory = NoMemory
+
+-- what a fault of opening what is kept means for the engine
+abbrev pub start_fault : OpeningFault → StartFault
+start_fault (opening.UnknownMaster project) = UnknownMaster project
+start_fault (opening.Damaged secret) = DamagedPayload secret
+start_fault opening.NoMemory = NoMemory

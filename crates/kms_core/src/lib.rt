@@ -4,12 +4,13 @@
 mod asked;
 mod engine;
 pub mod laws;
+mod payload;
 mod prepare;
 mod start;
 mod start_fault;
 #[cfg(test)]
 mod tests;
 
-pub use asked::{AskFault, Asked};
+pub use asked::{AskFault, Asked, PreparedStep};
 pub use engine::Engine;
 pub use start_fault::StartFault;

@@ -7,4 +7,5 @@ pub returns-clause-waits : goal.returns-clause-waits
 returns-clause-waits c =
     let inside = held c.self.inside in
     waits_seen inside c.args.self.now _ 1 c.self.view_is
-    (waits_one inside _ c.args.step c.requires.0 (leads_seen inside c.args.self.now c.args.step c.requires.0 c.self.view_is c.requires.1) refl c.stage.ensures.kept c.stage.ensures.staging c.stage.ensures.steps refl)
+    (waits_one inside _ c.args.step.step c.add_key.ensures.masters refl c.stage.ensures.kept c.stage.ensures.staging c.stage.ensures.steps
+    (leads_seen inside c.args.self.now c.args.step c.requires.0 c.self.view_is c.requires.1).reserved)
