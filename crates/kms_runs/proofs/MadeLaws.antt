@@ -7,6 +7,7 @@ use Rattle.kms_host.specs.Store.{is_attached}
 use Rattle.kms_host.proofs.Moments.{known_both, known_with}
 use Rattle.kms_host.proofs.StoreLaws.{only_attached-none}
 use Rattle.kms_serve.specs.Init.{CanBeServed}
+use Rattle.kms_serve.specs.Plan.{pipe_plan}
 use Rattle.kms_serve.specs.Theorem.{RunPromise}
 use Rattle.kms_serve.specs.Words.{is_pipe, init_of, pipe_of, store_of, named_store}
 use Rattle.kms_serve.specs.declared.status.Status.{Status}
@@ -15,12 +16,12 @@ use Rattle.kms_serve.proofs.NextLaws.{served_next}
 pub makes : (a b c : List ℕ) → a ≡ codes "init" → b ≡ codes "--store" → c ≡ codes "s" → init_of (a ∷ b ∷ c ∷ []) ≡ Some (codes "s")
 makes a b c first second third = rw (first, second, third) refl
 
-named_by : (t : Bool) (store c g : List ℕ) → store_of (cond t (Some (record { store = c; endpoint = g })) None) ≡ Some store → c ≡ store
-named_by true store c g e = cc
-named_by false store c g e = cc
+named_by : (t : Bool) (store c e g : List ℕ) → store_of (cond t (Some (pipe_plan c e g)) None) ≡ Some store → c ≡ store
+named_by true store c e g is = cc
+named_by false store c e g is = cc
 
 pub named : (a b c d e f g store : List ℕ) → c ≡ codes "s" → named_store (a ∷ b ∷ c ∷ d ∷ e ∷ f ∷ g ∷ []) ≡ Some store → codes "s" ≡ store
-named a b c d e f g store third is = subst (λ (x : List ℕ). x ≡ store) third (named_by (is_pipe a b c d e f g) store c g is)
+named a b c d e f g store third is = subst (λ (x : List ℕ). x ≡ store) third (named_by (is_pipe a b c d e f g) store c e g is)
 
 pub made : {before after : Option History} (words : List (List ℕ)) (store : List ℕ) (s : Status) → init_of words ≡ Some store
     → WhereTold before (λ h. is_attached h.calls ≡ false) → WhereTold before (IsOpen 0) → RunPromise (init_of words) (pipe_of words) before after s → WhereTold after (CanBeServed store)

@@ -19,6 +19,8 @@ const DRAWN: [u8; 8] = [0x01, 0x23, 0x45, 0x67, 0x89, 0xab, 0xcd, 0xef];
 pub struct Row<'a> {
     /// the words of the command line
     pub words: &'a [&'a str],
+    /// the text of the key file `k`; where there is none, that can't be read
+    pub keys: Option<&'a [u8]>,
     /// the store's files
     pub file_0: &'a [u8],
     pub file_1: &'a [u8],
@@ -47,6 +49,9 @@ fn host(alloc: Global, row: Row<'_>) -> Result<MemoryHost, NoMemory>
 {
     let files = [Bytes::of(alloc, row.file_0)?, Bytes::of(alloc, row.file_1)?];
     let mut host = MemoryHost::restart(alloc, files)?;
+    if let Some(text) = row.keys {
+        host.key_file("k", text)?;
+    }
     host.line(row.line, if row.piece == 0 { 1 } else { row.piece })?;
     host.moment(MOMENT)?;
     host.random(Purpose::Tag, &DRAWN)?;

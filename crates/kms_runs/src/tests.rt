@@ -1,5 +1,7 @@
 // Bytes in, bytes out: requests and replies from outside, and that a run succeeds where memory is ample.
 mod init;
+mod keys;
+mod payloads;
 mod reading;
 mod status;
 mod store;
@@ -41,10 +43,14 @@ const WORDS: [&str; 7] = [
 
 const EMPTY: &[u8] = b"";
 
+// The key file of 32 bytes, which count from 0.
+const KEYS: &[u8] = b"AAECAwQFBgcICQoLDA0ODxAREhMUFRYXGBkaGxwdHh8=\n";
+
 // A run of these words over a store whose file 0 is this.
 fn over<'a>(words: &'a [&'a str], file: &'a [u8], line: &'a [u8], piece: usize) -> Row<'a> {
     Row {
         words,
+        keys: Some(KEYS),
         file_0: file,
         file_1: EMPTY,
         line,

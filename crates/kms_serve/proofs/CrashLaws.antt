@@ -1,40 +1,35 @@
 -- What a stop leaves of the store, as calls are made.
-use Rattle.std.proofs.Common.{◌≡◌, ◌⊎◌, inl, inr, ℕ, zero, suc, ◌+◌, ◌≤◌, ◌<◌, List, [], ◌∷◌, ◌++◌, length, take, get_or, Bool, true, false, Option, refl, sym, ap, subst, ◌∙◌, arith, length-append}
-use Rattle.std.proofs.lemmas.List.{take_all}
-use Rattle.kms_host.specs.Disk.{Disk, disk, reads, files, at_rest, MayLeave, IsImage}
-use Rattle.kms_host.specs.History.{History, then_call}
-use Rattle.kms_host.specs.Line.{sent, OnlyGives}
-use Rattle.kms_host.specs.Moment.{then_calls}
-use Rattle.kms_host.specs.Store.{is_attached, syncs}
-use Rattle.kms_host.specs.declared.call.Call.{Call}
-use Rattle.kms_host.specs.declared.call.Call.TheVariants.{Text, Listened, Came, Attached, Took, Gave, Shut, OnFile, Told, Drew}
-use Rattle.kms_host.proofs.DiskLaws.{is_image}
-use Rattle.kms_host.proofs.Moments.{then_calls-append}
-use Rattle.kms_journal.specs.Device.{IsQuietStore}
-use Rattle.kms_journal.specs.Standing.{standing_of}
-use Rattle.kms_journal.proofs.OpeningLaws.{untouched_keeps}
-use Rattle.kms_journal.proofs.ReadingLaws.{untouched}
-use Rattle.kms_world.specs.State.{State}
-use Rattle.kms_record.specs.declared.key.WrappedKey.{WrappedKey}
+use Rattle.std.proofs.Common.{Bool, List, Option, [], ap, arith, false, get_or, inl, inr, length, length-append, refl, subst, sym, take, true, ℕ, ◌++◌, ◌+◌, ◌<◌, ◌∙◌, ◌∷◌, ◌≡◌, ◌≤◌, ◌⊎◌}
+use Rattle.std.proofs.lemmas.List.{append-nil}
 use Rattle.kms_core.specs.Stands.{Stands}
 use Rattle.kms_core.specs.Steps.{Held, IsSettled}
-use Rattle.kms_model.specs.declared.event.Mark.{Mark}
-use Rattle.kms_serve.specs.RunStart.{RunStart, history}
-use Rattle.kms_serve.specs.Crash.{Holds, IsSafe}
+use Rattle.kms_host.proofs.DiskLaws.{is_image}
+use Rattle.kms_host.proofs.Moments.{then_calls-append}
+use Rattle.kms_host.specs.Disk.{Disk, IsImage, MayLeave, at_rest, disk, files, reads}
+use Rattle.kms_host.specs.History.{History, then_call}
+use Rattle.kms_host.specs.Line.{OnlyGives, sent}
+use Rattle.kms_host.specs.Moment.{then_calls}
+use Rattle.kms_host.specs.Store.{is_attached, others, syncs}
+use Rattle.kms_host.specs.declared.call.Call.{Call}
+use Rattle.kms_host.specs.declared.call.Call.TheVariants.{Attached, Came, Drew, Gave, Listened, OnFile, Shut, Text, Told, Took}
+use Rattle.kms_http.specs.MessageStream.{after}
+use Rattle.kms_journal.proofs.OpeningLaws.{untouched_keeps}
+use Rattle.kms_journal.proofs.ReadingLaws.{untouched}
+use Rattle.kms_journal.specs.Device.{IsQuietStore}
+use Rattle.kms_journal.specs.Standing.{standing_of}
+use Rattle.kms_model.specs.Course.{Mark}
+use Rattle.kms_world.specs.State.{State}
+use Rattle.kms_serve.proofs.BatchLaws.{steps-more}
+use Rattle.kms_serve.proofs.ReplyLaws.{steps-begun, steps-front, take_front}
+use Rattle.kms_serve.specs.Batches.{is_settled}
+use Rattle.kms_serve.specs.Crash.{Holds, KeepsAfter}
 use Rattle.kms_serve.specs.Events.{LineEvent, events}
 use Rattle.kms_serve.specs.Opening.{IsAsBefore}
-use Rattle.kms_serve.specs.Replies.{state_by, steps_by, replies, answered_of}
-use Rattle.kms_serve.specs.StoreCalls.{store_failed}
-use Rattle.kms_serve.proofs.ReplyLaws.{state_by-marks, steps_by-marks, steps-front, steps-begun, replies-marks, length-answered, before_newest-more}
-
-take_front : (es more : List LineEvent) → take (length es) (es ++ more) ≡ es
-take_front [] more = refl
-take_front (d ∷ es) more = ap (λ (l : List LineEvent). d ∷ l) (take_front es more)
-
-take_short : (k : ℕ) (es : List LineEvent) → length (take k es) ≤ length es
-take_short zero es = omega arith
-take_short (suc k) [] = omega arith
-take_short (suc k) (d ∷ es) = omega (arith, take_short k es)
+use Rattle.kms_serve.specs.Owed.{OnlyDraws}
+use Rattle.kms_serve.specs.Owing.{KeepsAnswered}
+use Rattle.kms_serve.specs.Plan.{replies_on_lines}
+use Rattle.kms_serve.specs.Replies.{answered, answered_if, course_by, replies, steps_by}
+use Rattle.kms_serve.specs.RunStart.{RunStart, history}
 
 -- Nothing was done to the store in between.
 pub record Same (was now : History) : Type 0 where
@@ -99,8 +94,23 @@ same_files was now same =
     ap (λ (l : List ℕ). let x : List ℕ × List ℕ = (l, reads 1 now) in x) (same_reads was now same 0)
     ∙ ap (λ (l : List ℕ). let x : List ℕ × List ℕ = (reads 0 was, l) in x) (same_reads was now same 1)
 
-pub settled_same : {keys : List WrappedKey} (engine : Held) (n : ℕ) (was now : History) → Same was now → IsSettled keys engine n was → IsSettled keys engine n now
-settled_same engine n was now same s =
+pub same_draws : (h : History) (draws : List Call) → OnlyDraws draws → Same h (then_calls h draws)
+same_draws h [] only = record { disk = λ f. refl; attached = refl }
+same_draws h (Text name room bytes ∷ draws) only = absurd only
+same_draws h (Listened address done ∷ draws) only = absurd only
+same_draws h (Came next ∷ draws) only = absurd only
+same_draws h (Attached name done ∷ draws) only = absurd only
+same_draws h (Took line room bytes ∷ draws) only = absurd only
+same_draws h (Gave line piece went ∷ draws) only = absurd only
+same_draws h (Shut line ∷ draws) only = absurd only
+same_draws h (OnFile file c ∷ draws) only = absurd only
+same_draws h (Told t ∷ draws) only = absurd only
+same_draws h (Drew purpose bytes ∷ draws) only =
+    let before = same_draws h draws only.1 in
+    record { disk = before.disk; attached = before.attached }
+
+pub settled_same : {masters : List (List ℕ)} (engine : Held) (n : ℕ) (state : State) (was now : History) → Same was now → IsSettled masters engine n state was → IsSettled masters engine n state now
+settled_same engine n state was now same s =
     let k = s.opened in
     let o = k.opened in
     let p = o.placed in
@@ -108,6 +118,7 @@ settled_same engine n was now same s =
     record {
       idle = s.idle;
       opened = record {
+        settled = k.settled;
         opened = record {
           standing = o.standing;
           placed = record {
@@ -124,19 +135,20 @@ settled_same engine n was now same s =
           leads = o.leads;
           total = o.total;
         };
+        first = k.first;
         now = k.now;
       };
     }
 
 -- what a store stands for that is settled
-pub settled_stands : {keys : List WrappedKey} (engine : Held) (n : ℕ) (h : History) → IsSettled keys engine n h → Stands keys (files h) engine.state n
-settled_stands engine n h s =
+pub settled_stands : {masters : List (List ℕ)} (engine : Held) (n : ℕ) (state : State) (h : History) → IsSettled masters engine n state h → Stands masters (files h) state n
+settled_stands engine n state h s =
     let o = s.opened.opened in
-    record { standing = o.standing; current = o.placed.current; keeps = o.keeps; counted = o.counted }
+    record { kept = s.opened.settled; keeps = record { standing = o.standing; current = o.placed.current; keeps = o.keeps; counted = o.counted }; opens = s.opened.first }
 
-pub stands_by : {keys : List WrappedKey} (two others : List ℕ × List ℕ) (state : State) (n : ℕ) → standing_of two ≡ standing_of others → Stands keys others state n → Stands keys two state n
+pub stands_by : {masters : List (List ℕ)} (two others : List ℕ × List ℕ) (state : State) (n : ℕ) → standing_of two ≡ standing_of others → Stands masters others state n → Stands masters two state n
 stands_by two others state n same s =
-    record { standing = s.standing; current = same ∙ s.current; keeps = s.keeps; counted = s.counted }
+    record { kept = s.kept; keeps = record { standing = s.keeps.standing; current = same ∙ s.keeps.current; keeps = s.keeps.keeps; counted = s.keeps.counted }; opens = s.opens }
 
 -- the files as they read are a crash image, where nothing is pending
 pub files_image : (h : History) → IsQuietStore h → IsImage h (files h)
@@ -148,146 +160,91 @@ files_image h quiet = record {
 pub quiet_image : (h : History) (image : List ℕ × List ℕ) → IsQuietStore h → IsImage h image → standing_of image ≡ standing_of (files h)
 quiet_image h image quiet is = (untouched_keeps h h (untouched h)).images quiet image is
 
-pub stands_as : {keys : List WrappedKey} (two : List ℕ × List ℕ) (s t : State) (m n : ℕ) → s ≡ t → m ≡ n → Stands keys two s m → Stands keys two t n
-stands_as {keys} two s t m n state steps p = subst (λ (k : ℕ). Stands keys two t k) steps (subst (λ (x : State). Stands keys two x m) state p)
+pub stands_as : {masters : List (List ℕ)} (two : List ℕ × List ℕ) (s t : State) (m n : ℕ) → s ≡ t → m ≡ n → Stands masters two s m → Stands masters two t n
+stands_as {masters} two s t m n state steps p = subst (λ (k : ℕ). Stands masters two t k) steps (subst (λ (x : State). Stands masters two x m) state p)
 
--- The files have at least the steps of all events that are answered.
-pub record Keeps (b : RunStart) (marks : List Mark) (calls : List Call) (image : List ℕ × List ℕ) : Type 0 where
-  pub count : ℕ
-  pub within : count ≤ length (events calls)
-  pub stands : Stands b.keys image (state_by b.first (take count (events calls)) marks) (b.steps + steps_by b.first (take count (events calls)) marks)
-  pub all : steps_by b.first (answered_of (store_failed calls) (events calls)) marks ≤ steps_by b.first (take count (events calls)) marks
+-- what no call on a file changes, an image keeps
+pub keeps_by : (b : RunStart) (marks : List Mark) (es : List LineEvent) (image others : List ℕ × List ℕ) → standing_of image ≡ standing_of others → KeepsAfter b marks es others → KeepsAfter b marks es image
+keeps_by b marks es image others same k =
+    record { stands = stands_by image others (course_by b.first es marks).state (b.steps + steps_by b.first es marks) same k.stands }
 
-pub holds : (endpoint : List ℕ) (b : RunStart) (marks : List Mark) (calls : List Call) (image : List ℕ × List ℕ) → Keeps b marks calls image → Holds endpoint b marks calls image
-holds endpoint b marks calls image k = record {
+-- where all is settled each image keeps the state that was settled
+pub settled_keeps : (b : RunStart) (marks : List Mark) (es : List LineEvent) (engine : Held) (h : History)
+    → IsSettled b.masters engine (b.steps + steps_by b.first es marks) (course_by b.first es marks).state h → KeepsAfter b marks es (files h)
+settled_keeps b marks es engine h settled = record { stands = settled_stands engine (b.steps + steps_by b.first es marks) (course_by b.first es marks).state h settled }
+
+pub images_keep : (b : RunStart) (marks : List Mark) (es : List LineEvent) (calls : List Call) → (IsQuietStore b.was → IsQuietStore (history b calls)) → KeepsAfter b marks es (files (history b calls))
+    → IsQuietStore b.was → (image : List ℕ × List ℕ) → IsImage (history b calls) image → KeepsAfter b marks es image
+images_keep b marks es calls quiet keeps was_quiet image is = keeps_by b marks es image (files (history b calls)) (quiet_image (history b calls) image (quiet was_quiet) is) keeps
+
+-- what has the steps of all events that are answered holds what was acknowledged on lines
+pub holds_answered : (b : RunStart) (marks : List Mark) (calls : List Call) (image : List ℕ × List ℕ) → replies_on_lines b.plan.command ≡ true → KeepsAnswered b marks calls image → Holds b marks calls image
+holds_answered b marks calls image on k = record {
   count = k.count;
   within = k.within;
-  stands = k.stands;
-  acknowledged = λ line n begun. omega (arith, steps-front b.first (answered_of (store_failed calls) (events calls)) marks (n + 1), k.all);
+  keeps = k.keeps;
+  acknowledged = λ lines line n begun. omega (arith, steps-front b.first (answered b.plan calls) marks (n + 1), k.all);
+  shown = λ off begun. let no : true ≡ false = sym on ∙ off in cc;
+  whole = λ settled well. subst (λ z. steps_by b.first (answered_if z b.plan calls) marks ≤ steps_by b.first (take k.count (events b.plan calls)) marks) well k.all;
 }
 
--- every crash image does
-abbrev pub AllKeep : RunStart → List Mark → List Call → Type 0
-AllKeep b marks calls = IsQuietStore b.was → (image : List ℕ × List ℕ) → IsImage (history b calls) image → Keeps b marks calls image
-
-pub safe : (endpoint : List ℕ) (b : RunStart) (marks : List Mark) (calls : List Call) → AllKeep b marks calls → IsSafe endpoint b marks calls
-safe endpoint b marks calls keep = record { images = λ quiet image is. holds endpoint b marks calls image (keep quiet image is) }
-
-pub keep_on : (b : RunStart) (marks : List Mark) (was now : List Call) → events now ≡ events was → store_failed now ≡ store_failed was
-    → Same (history b was) (history b now) → AllKeep b marks was → AllKeep b marks now
-keep_on b marks was now same failed calls keep = λ quiet image is.
-    let k = keep quiet image (image_same (history b was) (history b now) image calls is) in
+-- An image that keeps the first events holds what was acknowledged, if no more was sent on any line than the replies to these. So it
+-- is while a batch is answered, with what came before the batch; and in a settle that has kept nothing yet.
+pub holds_first : (b : RunStart) (marks : List Mark) (es more later : List LineEvent) (calls : List Call) (image : List ℕ × List ℕ)
+    → events b.plan calls ≡ es ++ more → answered b.plan calls ≡ es ++ later → length es ≤ length marks
+    → (replies_on_lines b.plan.command ≡ true → (line : ℕ) → length (sent line calls) ≤ length (replies line b.plan.endpoint b.first es marks))
+    → (replies_on_lines b.plan.command ≡ false → sent 0 calls ≡ [])
+    → is_settled calls ≡ false
+    → KeepsAfter b marks es image → Holds b marks calls image
+holds_first b marks es more later calls image all among long few silent busy k =
+    let front : take (length es) (events b.plan calls) ≡ es = ap (λ (x : List LineEvent). take (length es) x) all ∙ take_front es more in
+    let same : steps_by b.first (take (length es) (events b.plan calls)) marks ≡ steps_by b.first es marks = ap (λ (x : List LineEvent). steps_by b.first x marks) front in
     record {
-      count = k.count;
-      within = rw same k.within;
-      stands = rw same k.stands;
-      all = rw (same, failed) k.all;
+      count = length es;
+      within = omega (arith, ap (λ (x : List LineEvent). length x) all, length-append es more);
+      keeps = subst (λ (x : List LineEvent). KeepsAfter b marks x image) (sym front) k;
+      acknowledged = λ on_lines line n begun.
+          let fewer : length (replies line b.plan.endpoint b.first (take n (es ++ later)) marks) < length (sent line calls) =
+          subst (λ (x : List LineEvent). length (replies line b.plan.endpoint b.first (take n x) marks) < length (sent line calls)) among begun in
+          let held = steps-begun line b.plan.endpoint b.first es later marks n long (omega (arith, fewer, few on_lines line)) in
+          let goal : steps_by b.first (take (n + 1) (answered b.plan calls)) marks ≤ steps_by b.first es marks =
+          subst (λ (x : List LineEvent). steps_by b.first (take (n + 1) x) marks ≤ steps_by b.first es marks) (sym among) held in
+          omega (arith, goal, same);
+      shown = λ off begun. let none : length (sent 0 calls) ≡ 0 = ap (λ (x : List ℕ). length x) (silent off) in omega (arith, none, begun);
+      whole = λ settled well. let no : false ≡ true = sym busy ∙ settled in cc;
     }
 
--- where all is settled
-pub settled_keep : (b : RunStart) (marks : List Mark) (engine : Held) (calls : List Call) → (IsQuietStore b.was → IsQuietStore (history b calls)) → store_failed calls ≡ false
-    → engine.state ≡ state_by b.first (events calls) marks → IsSettled b.keys engine (b.steps + steps_by b.first (events calls) marks) (history b calls) → AllKeep b marks calls
-settled_keep b marks engine calls quiet unfailed state settled = λ was_quiet image is.
-    let h = history b calls in
-    let es = events calls in
-    let whole : take (length es) es ≡ es = take_all (length es) es (omega arith) in
-    let here : Stands b.keys image engine.state (b.steps + steps_by b.first es marks) =
-    stands_by image (files h) engine.state (b.steps + steps_by b.first es marks) (quiet_image h image (quiet was_quiet) is) (settled_stands engine (b.steps + steps_by b.first es marks) h settled) in
+-- An image that keeps all events holds what was acknowledged, whatever was sent. So it is from the end of a settle on.
+pub holds_all : (b : RunStart) (marks : List Mark) (later : List LineEvent) (calls : List Call) (image : List ℕ × List ℕ)
+    → events b.plan calls ≡ answered b.plan calls ++ later → KeepsAfter b marks (events b.plan calls) image → Holds b marks calls image
+holds_all b marks later calls image among k =
+    let es = events b.plan calls in
+    let front : take (length es) es ≡ es = ap (λ (x : List LineEvent). take (length es) x) (sym (append-nil es)) ∙ take_front es [] in
+    let same : steps_by b.first (take (length es) es) marks ≡ steps_by b.first es marks = ap (λ (x : List LineEvent). steps_by b.first x marks) front in
+    let first : steps_by b.first (answered b.plan calls) marks ≤ steps_by b.first es marks =
+    subst (λ (x : List LineEvent). steps_by b.first (answered b.plan calls) marks ≤ steps_by b.first x marks) (sym among) (steps-more b.first (answered b.plan calls) later marks) in
     record {
       count = length es;
       within = omega arith;
-      stands = stands_as image engine.state (state_by b.first (take (length es) es) marks) (b.steps + steps_by b.first es marks) (b.steps + steps_by b.first (take (length es) es) marks)
-          (state ∙ ap (λ (l : List LineEvent). state_by b.first l marks) (sym whole)) (ap (λ (l : List LineEvent). b.steps + steps_by b.first l marks) (sym whole)) here;
-      all = rw (unfailed, whole) (omega arith);
+      keeps = subst (λ (x : List LineEvent). KeepsAfter b marks x image) (sym front) k;
+      acknowledged = λ on_lines line n begun. omega (arith, same, first, steps-front b.first (answered b.plan calls) marks (n + 1));
+      shown = λ off begun. omega (arith, same);
+      whole = λ settled well. omega (arith, same);
     }
 
--- marks of later events change nothing
-pub safe-marks : (endpoint : List ℕ) (b : RunStart) (marks more : List Mark) (calls : List Call) → length (events calls) ≤ length marks → IsSafe endpoint b marks calls → IsSafe endpoint b (marks ++ more) calls
-safe-marks endpoint b marks more calls within s = record {
-  images = λ quiet image is.
-      let h = s.images quiet image is in
-      let es = events calls in
-      let answered = answered_of (store_failed calls) es in
-      let front = take h.count es in
-      let short : length front ≤ length marks = omega (arith, take_short h.count es, within) in
-      let fewer = length-answered (store_failed calls) es in
-      record {
-        count = h.count;
-        within = h.within;
-        stands = rw (state_by-marks b.first front marks more short, steps_by-marks b.first front marks more short) h.stands;
-        acknowledged = λ line k begun.
-            let few : length (take k answered) ≤ length marks = omega (arith, take_short k answered, fewer, within) in
-            let one_more : length (take (k + 1) answered) ≤ length marks = omega (arith, take_short (k + 1) answered, fewer, within) in
-            rw (steps_by-marks b.first (take (k + 1) answered) marks more one_more, steps_by-marks b.first front marks more short)
-            (h.acknowledged line k (subst (λ (l : List ℕ). length l < length (sent line calls)) (replies-marks line endpoint b.first (take k answered) marks more few) begun));
-      };
-}
-
--- While the newest event is settled: the files stand for the state before it or for the one after it, and all other replies
--- were given whole.
-module _ (endpoint : List ℕ) (b : RunStart) (es : List LineEvent) (ms : List Mark) (e : LineEvent) (m : Mark) (calls : List Call) (image : List ℕ × List ℕ)
-    (same : events calls ≡ es ++ e ∷ []) (marked : length es ≡ length ms) where
-  abbrev pub marks : List Mark
-  marks = ms ++ m ∷ []
-
-  length-same : length (events calls) ≡ length es + 1
-  length-same = ap length same ∙ length-append es (e ∷ [])
-
-  take_before : take (length es) (es ++ e ∷ []) ≡ es
-  take_before = take_front es (e ∷ [])
-
-  take_whole : take (length es + 1) (es ++ e ∷ []) ≡ es ++ e ∷ []
-  take_whole = take_all (length es + 1) (es ++ e ∷ []) (omega (arith, length-append es (e ∷ [])))
-
-  begun : (failed : Bool) (line k : ℕ) → sent line calls ≡ replies line endpoint b.first es ms
-      → length (replies line endpoint b.first (take k (answered_of failed (es ++ e ∷ []))) marks) < length (sent line calls)
-      → steps_by b.first (take (k + 1) (answered_of failed (es ++ e ∷ []))) marks ≤ steps_by b.first es ms
-  begun false line k given more = steps-begun line endpoint b.first es ms e m k marked (subst (λ (l : List ℕ). length (replies line endpoint b.first (take k (es ++ e ∷ [])) marks) < length l) given more)
-  begun true line k given more =
-      let few : steps_by b.first es marks ≡ steps_by b.first es ms = steps_by-marks b.first es ms (m ∷ []) (omega (arith, marked)) in
-      rw (before_newest-more es e) (omega (arith, few, steps-front b.first es marks (k + 1)))
-
-  pub holds_settling : ((line : ℕ) → sent line calls ≡ replies line endpoint b.first es ms)
-      → Stands b.keys image (state_by b.first es ms) (b.steps + steps_by b.first es ms) ⊎ Stands b.keys image (state_by b.first (es ++ e ∷ []) marks) (b.steps + steps_by b.first (es ++ e ∷ []) marks)
-      → Holds endpoint b marks calls image
-  holds_settling given (inl before) =
-      let state : state_by b.first es marks ≡ state_by b.first es ms = state_by-marks b.first es ms (m ∷ []) (omega (arith, marked)) in
-      let steps : steps_by b.first es marks ≡ steps_by b.first es ms = steps_by-marks b.first es ms (m ∷ []) (omega (arith, marked)) in
-      record {
-        count = length es;
-        within = omega (arith, length-same);
-        stands = rw (same, take_before, state, steps) before;
-        acknowledged = λ line k. rw (same, take_before, steps) (begun (store_failed calls) line k (given line));
-      }
-  holds_settling given (inr all) =
-      let more : steps_by b.first es ms ≤ steps_by b.first (es ++ e ∷ []) marks =
-      omega (arith, steps_by-marks b.first es ms (m ∷ []) (omega (arith, marked)), subst (λ (l : List LineEvent). steps_by b.first l marks ≤ steps_by b.first (es ++ e ∷ []) marks) take_before (steps-front b.first (es ++ e ∷ []) marks (length es))) in
-      record {
-        count = length es + 1;
-        within = omega (arith, length-same);
-        stands = rw (same, take_whole) all;
-        acknowledged = λ line k. rw (same, take_whole) (λ sent_more. omega (arith, more, begun (store_failed calls) line k (given line) sent_more));
-      }
-
-  -- where the settling failed
-  pub keeps_faulted : store_failed calls ≡ true
-      → Stands b.keys image (state_by b.first es ms) (b.steps + steps_by b.first es ms) ⊎ Stands b.keys image (state_by b.first (es ++ e ∷ []) marks) (b.steps + steps_by b.first (es ++ e ∷ []) marks)
-      → Keeps b marks calls image
-  keeps_faulted failed (inl before) =
-      let state : state_by b.first es marks ≡ state_by b.first es ms = state_by-marks b.first es ms (m ∷ []) (omega (arith, marked)) in
-      let steps : steps_by b.first es marks ≡ steps_by b.first es ms = steps_by-marks b.first es ms (m ∷ []) (omega (arith, marked)) in
-      record {
-        count = length es;
-        within = omega (arith, length-same);
-        stands = rw (same, take_before, state, steps) before;
-        all = rw (failed, same, before_newest-more es e, take_before) (omega arith);
-      }
-  keeps_faulted failed (inr all) =
-      let more : steps_by b.first es marks ≤ steps_by b.first (es ++ e ∷ []) marks =
-      subst (λ (l : List LineEvent). steps_by b.first l marks ≤ steps_by b.first (es ++ e ∷ []) marks) take_before (steps-front b.first (es ++ e ∷ []) marks (length es)) in
-      record {
-        count = length es + 1;
-        within = omega (arith, length-same);
-        stands = rw (same, take_whole) all;
-        all = rw (failed, same, before_newest-more es e, take_whole) more;
-      }
+-- In a settle an image keeps what came before the batch, or all of the batch too.
+pub holds_settling : (b : RunStart) (marks : List Mark) (es more : List LineEvent) (calls : List Call) (image : List ℕ × List ℕ) (failed : Bool)
+    → events b.plan calls ≡ es ++ more → (failed ≡ true → answered b.plan calls ≡ es) → (failed ≡ false → answered b.plan calls ≡ events b.plan calls)
+    → length es ≤ length marks
+    → (replies_on_lines b.plan.command ≡ true → (line : ℕ) → length (sent line calls) ≤ length (replies line b.plan.endpoint b.first es marks))
+    → (replies_on_lines b.plan.command ≡ false → sent 0 calls ≡ [])
+    → is_settled calls ≡ false
+    → KeepsAfter b marks es image ⊎ KeepsAfter b marks (events b.plan calls) image → Holds b marks calls image
+holds_settling b marks es more calls image true all among sound long few silent busy k = elim k [
+  | inl before ↦ holds_first b marks es more [] calls image all (among refl ∙ sym (append-nil es)) long few silent busy before
+  | inr after ↦ holds_all b marks more calls image (all ∙ ap (λ (x : List LineEvent). x ++ more) (sym (among refl))) after
+]
+holds_settling b marks es more calls image false all among sound long few silent busy k = elim k [
+  | inl before ↦ holds_first b marks es more more calls image all (sound refl ∙ all) long few silent busy before
+  | inr after ↦ holds_all b marks [] calls image (sym (append-nil (events b.plan calls)) ∙ ap (λ (x : List LineEvent). x ++ []) (sym (sound refl))) after
+]

@@ -4,7 +4,7 @@ use Rattle.std.specs.Prelude.{is_some}
 use Rattle.http.specs.StatusCode.{reason_phrase}
 use Rattle.kms_json.specs.Answer.{HasForm}
 use Rattle.kms_model.proofs.StatusLaws.{has_status}
-use Rattle.kms_model.specs.Run.{asked_answer}
+use Rattle.kms_model.specs.Requests.{asked_answer}
 use Rattle.kms_model.specs.Statuses.{HasStatus, IsSuccess}
 use Rattle.kms_world.specs.State.{State}
 use Rattle.kms_world.specs.declared.answer.Answer.{Answer}

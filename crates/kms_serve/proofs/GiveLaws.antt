@@ -1,14 +1,14 @@
 -- What is given, call by call.
-use Rattle.std.proofs.Common.{◌≡◌, ℕ, ◌<◌, List, [], ◌∷◌, ◌++◌, length, take, drop, Bool, true, false, Some, None, Option, Result, Ok, Err, nat_eq, cond, refl, sym, ap, ◌∙◌, subst, eq-eqb, IsErr}
-use Rattle.std.specs.Prelude.{OnErr}
-use Rattle.std.proofs.lemmas.List.{append_assoc, append-nil, take-append-drop}
+use Rattle.std.proofs.Common.{Bool, Err, IsErr, List, None, Ok, Option, Result, Some, [], ap, append_assoc, cond, drop, eq-eqb, false, length, nat_eq, refl, subst, sym, take, true, ℕ, ◌++◌, ◌<◌, ◌∙◌, ◌∷◌, ◌≡◌}
+use Rattle.std.proofs.lemmas.List.{append-nil, take-append-drop}
 use Rattle.std.proofs.lemmas.Result.{IfOk-from_err}
+use Rattle.std.specs.Prelude.{OnErr}
 use Rattle.kms_host.specs.History.{History, then_call}
-use Rattle.kms_host.specs.Line.{sent, failed_on, OnlyGives, IsOpen}
+use Rattle.kms_host.specs.Line.{IsOpen, OnlyGives, failed_on, sent, taken}
 use Rattle.kms_host.specs.declared.call.Call.{Call}
-use Rattle.kms_host.specs.declared.call.Call.TheVariants.{Text, Listened, Came, Attached, Took, Gave, Shut, OnFile, Told, Drew}
+use Rattle.kms_host.specs.declared.call.Call.TheVariants.{Attached, Came, Drew, Gave, Listened, OnFile, Shut, Text, Told, Took}
 use Rattle.kms_serve.specs.Ends.{EndsFailed}
-use Rattle.kms_serve.specs.Owed.{OnlyLeft, Gives}
+use Rattle.kms_serve.specs.Owed.{Gives, OnlyLeft}
 use Rattle.kms_serve.specs.Owing.{on_line}
 
 -- what was given and what is left are the bytes
@@ -87,25 +87,25 @@ both_on : (b : Bool) (x y : List ℕ) → cond b (cond b x [] ++ y) (cond b x []
 both_on true x y = refl
 both_on false x y = refl
 
-pub on_line-append : (line : ℕ) (x y : List ℕ) → on_line line (x ++ y) ≡ on_line line x ++ on_line line y
-on_line-append line x y = split (nat_eq 0 line) x y
+pub on_line-append : (now line : ℕ) (x y : List ℕ) → on_line now line (x ++ y) ≡ on_line now line x ++ on_line now line y
+on_line-append now line x y = split (nat_eq now line) x y
   where
     split : (b : Bool) (x y : List ℕ) → cond b (x ++ y) [] ≡ cond b x [] ++ cond b y []
     split true x y = refl
     split false x y = refl
 
-pub on_line-nil : (line : ℕ) → on_line line [] ≡ []
-on_line-nil line = split (nat_eq 0 line)
+pub on_line-nil : (now line : ℕ) → on_line now line [] ≡ []
+on_line-nil now line = split (nat_eq now line)
   where
     split : (b : Bool) → (let none : List ℕ = [] in cond b none none ≡ none)
     split true = refl
     split false = refl
 
-pub sent_on : (line : ℕ) (gives : List Call) → OnlyGives 0 gives → sent line gives ≡ on_line line (sent 0 gives)
-sent_on line [] h = sym (on_line-nil line)
+pub sent_on : (line : ℕ) (gives : List Call) → OnlyGives 0 gives → sent line gives ≡ on_line 0 line (sent 0 gives)
+sent_on line [] h = sym (on_line-nil 0 line)
 sent_on line (Took l room bytes ∷ gives) h = absurd h
 sent_on line (Gave l piece (Some n) ∷ gives) h =
-    let before : sent line gives ≡ on_line line (sent 0 gives) = sent_on line gives h.1 in
+    let before : sent line gives ≡ on_line 0 line (sent 0 gives) = sent_on line gives h.1 in
     rw (h.0, before) (both_on (nat_eq 0 line) (sent 0 gives) (take n piece))
 sent_on line (Gave l piece None ∷ gives) h = sent_on line gives h.1
 sent_on line (Shut l ∷ gives) h = absurd h

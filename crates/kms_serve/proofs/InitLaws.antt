@@ -32,7 +32,7 @@ use Rattle.kms_serve.specs.declared.status.Status.TheVariants as status
 
 -- A fresh store is an empty key manager.
 pub fresh_stands : (image : List ℕ × List ℕ) (tag : ℕ) → tag < 2 ^ 60 → standing_of image ≡ Some (fresh tag) → IsFreshStore image tag
-fresh_stands image tag low is = (fresh_store image tag low is, is)
+fresh_stands image tag low is = (λ masters. fresh_store masters image tag low is, is)
 
 -- Calls over two spans, the later ones first.
 

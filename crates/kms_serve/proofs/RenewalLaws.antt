@@ -1,7 +1,7 @@
 -- The generations of a run's store, as calls are made.
-use Rattle.std.proofs.Common.{◌≡◌, ℕ, ◌+◌, ◌*◌, ◌≤◌, List, [], ◌∷◌, ◌++◌, Bool, true, false, Some, refl, sym, ap, subst, ◌∙◌, arith, cond}
-use Rattle.kms_host.specs.Disk.{files, IsImage}
-use Rattle.kms_host.specs.History.{History, then_call}
+use Rattle.std.proofs.Common.{◌≡◌, ℕ, ◌+◌, ◌<◌, List, [], ◌∷◌, ◌++◌, Bool, true, false, refl, sym, ap, subst, ◌∙◌, arith, cond}
+use Rattle.kms_host.specs.Disk.{IsImage}
+use Rattle.kms_host.specs.History.{History}
 use Rattle.kms_host.specs.Line.{OnlyGives}
 use Rattle.kms_host.specs.Moment.{then_calls}
 use Rattle.kms_host.specs.declared.call.Call.{Call}
@@ -12,12 +12,14 @@ use Rattle.kms_journal.specs.Cuts.{cuts}
 use Rattle.kms_journal.specs.Device.{IsQuietStore}
 use Rattle.kms_journal.specs.Position.{Position}
 use Rattle.kms_journal.specs.Raised.{IsRaised}
-use Rattle.kms_journal.specs.Standing.{Standing, standing_of}
+use Rattle.kms_journal.specs.Standing.{Standing}
 use Rattle.kms_journal.proofs.OpeningLaws.{some_is}
 use Rattle.kms_journal.proofs.RaisedLaws.{cuts_since}
 use Rattle.kms_core.specs.Steps.{Held, IsSettled}
+use Rattle.kms_serve.specs.Batches.{in_batch}
 use Rattle.kms_serve.specs.Owing.{IsAbove}
 use Rattle.kms_serve.specs.Renewals.{is_asked, renewals, IsRenewed, AllRenewed}
+use Rattle.kms_world.specs.State.{State}
 use Rattle.kms_serve.specs.RunStart.{RunStart, history}
 use Rattle.kms_serve.specs.StoreCalls.{OnlyFiles}
 use Rattle.kms_serve.proofs.CrashLaws.{Same, image_same, quiet_image}
@@ -86,7 +88,7 @@ pub above_on : (b : RunStart) (engine : Held) (was now : List Call) → renewals
 above_on b engine was now same above = λ quiet s first. above quiet s first ∙ ap (λ (n : ℕ). s.generation + n) (sym same)
 
 -- where all is settled
-module _ (b : RunStart) (engine : Held) (n : ℕ) (calls : List Call) (above : IsAbove b engine calls) (settled : IsSettled b.keys engine n (history b calls)) where
+module _ (b : RunStart) (engine : Held) (n : ℕ) (state : State) (calls : List Call) (above : IsAbove b engine calls) (settled : IsSettled b.masters engine n state (history b calls)) where
   pub all_renewed : AllRenewed b calls
   all_renewed quiet s t first now =
       let o = settled.opened.opened in
@@ -100,25 +102,39 @@ module _ (b : RunStart) (engine : Held) (n : ℕ) (calls : List Call) (above : I
         (omega (arith, e), omega (arith, e));
   }
 
--- while the steps of an event are settled, behind the time that was told
-module _ (b : RunStart) (engine : Held) (time : ℕ) (x on_files : List Call) (only : OnlyFiles on_files) (above : IsAbove b engine x) where
+-- a time was told for the batch that is being answered
+pub batch_asked : (calls : List Call) → 0 < in_batch calls → is_asked calls ≡ true
+batch_asked [] h = absurd (omega (arith, h))
+batch_asked (Text name room bytes ∷ calls) h = absurd (omega (arith, h))
+batch_asked (Listened address done ∷ calls) h = absurd (omega (arith, h))
+batch_asked (Came next ∷ calls) h = absurd (omega (arith, h))
+batch_asked (Attached name done ∷ calls) h = absurd (omega (arith, h))
+batch_asked (Took l room bytes ∷ calls) h = absurd (omega (arith, h))
+batch_asked (Gave l piece went ∷ calls) h = absurd (omega (arith, h))
+batch_asked (Shut l ∷ calls) h = absurd (omega (arith, h))
+batch_asked (OnFile file c ∷ calls) h = absurd (omega (arith, h))
+batch_asked (Told t ∷ calls) h = refl
+batch_asked (Drew purpose bytes ∷ calls) h = batch_asked calls h
+
+-- while the steps of a batch are settled
+module _ (b : RunStart) (engine : Held) (x on_files : List Call) (only : OnlyFiles on_files) (asked : is_asked x ≡ true) (above : IsAbove b engine x) where
   abbrev mid : History
-  mid = then_call (history b x) (Told time)
+  mid = history b x
 
   pub cuts_then : cuts (then_calls mid on_files).calls ≡ cuts on_files + cuts mid.calls
   cuts_then = cuts_since mid on_files
 
-  pub renewals_then : renewals (on_files ++ Told time ∷ x) ≡ cuts on_files + renewals x
-  renewals_then = renewals-files on_files (Told time ∷ x) only refl
+  pub renewals_then : renewals (on_files ++ x) ≡ cuts on_files + renewals x
+  renewals_then = renewals-files on_files x only asked
 
   pub renewed_settling : (IsQuietStore b.was → IsQuietStore mid)
-      → (IsQuietStore mid → (image : List ℕ × List ℕ) → IsImage (then_calls mid on_files) image → IsRaised engine.store.journal.generation mid (then_calls mid on_files) image) → IsRenewed b (on_files ++ Told time ∷ x)
+      → (IsQuietStore mid → (image : List ℕ × List ℕ) → IsImage (then_calls mid on_files) image → IsRaised engine.store.journal.generation mid (then_calls mid on_files) image) → IsRenewed b (on_files ++ x)
   renewed_settling quiet_then raised = record {
     images = λ quiet image is s t first now.
-        let here : IsImage (then_calls mid on_files) image = subst (λ (h : History). IsImage h image) (then_calls-append b.was on_files (Told time ∷ x)) is in
+        let here : IsImage (then_calls mid on_files) image = subst (λ (h : History). IsImage h image) (then_calls-append b.was on_files x) is in
         let r = (raised (quiet_then quiet) image here).raised t now in
         (omega (arith, r.0, cuts_then, renewals_then, above quiet s first), omega (arith, r.1, cuts_then, renewals_then, above quiet s first));
   }
 
-  pub above_settled : (after : Held) → after.store.journal.generation + cuts mid.calls ≡ engine.store.journal.generation + cuts (then_calls mid on_files).calls → IsAbove b after (on_files ++ Told time ∷ x)
+  pub above_settled : (after : Held) → after.store.journal.generation + cuts mid.calls ≡ engine.store.journal.generation + cuts (then_calls mid on_files).calls → IsAbove b after (on_files ++ x)
   above_settled after raised = λ quiet s first. omega (arith, raised, cuts_then, renewals_then, above quiet s first)

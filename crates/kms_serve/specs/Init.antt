@@ -43,9 +43,9 @@ creation_status (Err creation.Exists) = status.StoreExists
 creation_status (Err creation.StoreFault) = status.StoreFault
 creation_status (Err creation.NoMemory) = status.NoMemory
 
--- the files stand for an empty key manager, whose ids have this tag
+-- under any master keys the files stand for an empty key manager, whose ids have this tag
 abbrev pub IsFreshStore : List ℕ × List ℕ → ℕ → Type 0
-IsFreshStore image tag = Stands [] image (empty_state tag) 0 × (standing_of image ≡ Some (fresh tag))
+IsFreshStore image tag = ((masters : List (List ℕ)) → Stands masters image (empty_state tag) 0) × (standing_of image ≡ Some (fresh tag))
 
 -- The calls that are not on a file, the newest first: the store was named, and then bytes were drawn for its tag.
 abbrev pub naming : List ℕ → Result (Unit {0}) NameFault → List Call
@@ -134,6 +134,10 @@ IsInitEnd store status.LinkFault was calls = ⊥
 IsInitEnd store (status.Rest place) was calls = ⊥
 IsInitEnd store (status.Unreadable place) was calls = ⊥
 IsInitEnd store (status.Damaged place) was calls = ⊥
+IsInitEnd store status.KeyFileFault was calls = ⊥
+IsInitEnd store (status.BadKeyFile bad) was calls = ⊥
+IsInitEnd store (status.UnknownMaster project) was calls = ⊥
+IsInitEnd store (status.DamagedPayload secret) was calls = ⊥
 
 -- A run of `init` that ended so and made these calls, the newest first. A call of the store failed exactly where that is
 -- the status.
@@ -164,6 +168,10 @@ IsInitStatus status.LinkFault = ⊥
 IsInitStatus (status.Rest place) = ⊥
 IsInitStatus (status.Unreadable place) = ⊥
 IsInitStatus (status.Damaged place) = ⊥
+IsInitStatus status.KeyFileFault = ⊥
+IsInitStatus (status.BadKeyFile bad) = ⊥
+IsInitStatus (status.UnknownMaster project) = ⊥
+IsInitStatus (status.DamagedPayload secret) = ⊥
 
 -- no call of the store failed and none that draws: there is a store now, or the run was out of memory
 abbrev pub IsInitDone : Status → Type 0
@@ -178,3 +186,7 @@ IsInitDone status.LinkFault = ⊥
 IsInitDone (status.Rest place) = ⊥
 IsInitDone (status.Unreadable place) = ⊥
 IsInitDone (status.Damaged place) = ⊥
+IsInitDone status.KeyFileFault = ⊥
+IsInitDone (status.BadKeyFile bad) = ⊥
+IsInitDone (status.UnknownMaster project) = ⊥
+IsInitDone (status.DamagedPayload secret) = ⊥

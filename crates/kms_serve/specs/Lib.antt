@@ -1,12 +1,16 @@
 pub mod Acknowledged
+pub mod Allowed
 pub mod Answered
+pub mod Batches
 pub mod Crash
 pub mod Ends
 pub mod Events
 pub mod Init
+pub mod Marks
 pub mod Opening
 pub mod Owed
 pub mod Owing
+pub mod Plan
 pub mod Renewals
 pub mod Replies
 pub mod Requests

@@ -1,73 +1,92 @@
--- What preparing a reply and giving bytes did.
-use Rattle.std.specs.Prelude.{◌≡◌, ◌⊎◌, ℕ, ◌+◌, ◌<◌, List, [], ◌∷◌, ◌++◌, length, Bool, true, false, Result, OnOk, OnErr}
-use Rattle.kms_host.specs.History.{History, then_call}
-use Rattle.kms_host.specs.Moment.{AtEach, then_calls}
+-- What answering a message, settling and giving bytes did, each from its own start.
+use Rattle.std.specs.Prelude.{◌≡◌, ◌⊎◌, ℕ, ◌≤◌, ◌<◌, List, [], ◌∷◌, ◌++◌, length, map, Bool, true, false, Option, Some, None, Result, Ok, Err, OnOk, OnErr}
 use Rattle.kms_host.specs.Line.{sent, failed_on}
+use Rattle.kms_host.specs.Random.{drawn, failed_draws}
 use Rattle.kms_host.specs.declared.call.Call.{Call}
 use Rattle.kms_host.specs.declared.call.Call.TheVariants.{Text, Listened, Came, Attached, Took, Gave, Shut, OnFile, Told, Drew}
-use Rattle.kms_journal.specs.Cuts.{cuts}
-use Rattle.kms_journal.specs.Device.{IsQuietStore}
-use Rattle.kms_record.specs.declared.key.WrappedKey.{WrappedKey}
-use Rattle.kms_core.specs.Settling.{IsSettledOrAll}
-use Rattle.kms_core.specs.Steps.{Held, IsSettled, Waits}
-use Rattle.kms_model.specs.Run.{answer_at, state_at, stores_at, steps_if}
-use Rattle.kms_model.specs.declared.event.Mark.{Mark}
-use Rattle.kms_http.specs.declared.served.Served.{Served}
+use Rattle.kms_host.specs.declared.call.Purpose.TheVariants.{OrderKey}
+use Rattle.kms_core.specs.Steps.{Held, HasState, LeadsTo, Waits}
+use Rattle.kms_core.specs.declared.asked.AskFault.{AskFault}
+use Rattle.kms_core.specs.declared.asked.AskFault.TheVariants as faults
+use Rattle.kms_core.specs.declared.asked.PreparedStep.{PreparedStep}
+use Rattle.kms_world.specs.State.{State}
+use Rattle.kms_model.specs.Course.{Mark, Course, Fits, AllFit, draws, course_at, outcome_at, stores_at, steps_if, some_draw, draw_marks, keys_of}
 use Rattle.kms_http.specs.Reply.{fault_reply_of}
-use Rattle.kms_http.specs.declared.fault.FaultReply.TheVariants.{F1, F3}
-use Rattle.kms_serve.specs.Events.{LineEvent, event}
-use Rattle.kms_serve.specs.Replies.{asked, reply_to}
+use Rattle.kms_http.specs.declared.fault.FaultReply.TheVariants.{F2, F3}
+use Rattle.kms_serve.specs.Allowed.{IsDraw}
 use Rattle.kms_serve.specs.Ends.{EndsFailed}
-use Rattle.kms_serve.specs.StoreCalls.{store_failed, IsUnfailedBefore, OnlyFiles}
+use Rattle.kms_serve.specs.Events.{LineEvent}
+use Rattle.kms_serve.specs.Replies.{event_of, course_by, steps_by, replies, reply_to}
 use Rattle.kms_serve.specs.declared.owed.Owed.{Owed}
-use Rattle.kms_serve.specs.declared.owed.Owed.TheVariants.{Reply, OutOfMemory, StoreFault}
+use Rattle.kms_serve.specs.declared.owed.Owed.TheVariants.{Reply, OutOfMemory, NoDraw}
 
 -- the bytes of a reply that is prepared
 abbrev pub owed_bytes : Owed → List ℕ
 owed_bytes (Reply bytes) = bytes
 owed_bytes OutOfMemory = fault_reply_of F3
-owed_bytes StoreFault = fault_reply_of F1
+owed_bytes NoDraw = fault_reply_of F2
 
--- it is the fault of the store
-abbrev pub is_fault : Owed → Bool
-is_fault (Reply bytes) = false
-is_fault OutOfMemory = false
-is_fault StoreFault = true
+-- nothing but draws
+abbrev pub OnlyDraws : List Call → Type 0
+OnlyDraws [] = Unit {0}
+OnlyDraws (Text name room bytes ∷ calls) = ⊥
+OnlyDraws (Listened address done ∷ calls) = ⊥
+OnlyDraws (Came line ∷ calls) = ⊥
+OnlyDraws (Attached name done ∷ calls) = ⊥
+OnlyDraws (Took line room bytes ∷ calls) = ⊥
+OnlyDraws (Gave line piece went ∷ calls) = ⊥
+OnlyDraws (Shut line ∷ calls) = ⊥
+OnlyDraws (OnFile file c ∷ calls) = ⊥
+OnlyDraws (Told t ∷ calls) = ⊥
+OnlyDraws (Drew purpose bytes ∷ calls) = IsDraw purpose bytes × OnlyDraws calls
 
--- how many steps an event makes
-abbrev pub steps_at : Held → LineEvent → Mark → ℕ
-steps_at before e mark = steps_if (stores_at before.state (asked e) mark)
+-- What was drawn for a request, nothing where it needs nothing, and no key of an order. Where it failed so the newest draw did.
+pub record DrawsFor (needs failed : Bool) (calls : List Call) : Type 0 where
+  pub only : OnlyDraws calls
+  pub needed : (calls ≡ []) ⊎ (needs ≡ true)
+  pub keyless : drawn OrderKey calls ≡ []
+  pub failing : failed ≡ true → 0 < failed_draws calls
 
--- An event was answered, by the plain key manager or as out of memory, and its steps wait.
-pub record Responds (endpoint : List ℕ) (before after : Held) (e : LineEvent) (owed : Owed) : Type 0 where
+-- there is no answer, since nothing could be drawn
+abbrev pub is_undrawn : {T : Type 0} → Result T AskFault → Bool
+is_undrawn (Ok x) = false
+is_undrawn (Err faults.NoDraw) = true
+is_undrawn (Err faults.NoMemory) = false
+
+-- there is a state to which the step leads, if there is one
+abbrev pub MayTakeOver : Option PreparedStep → Held → Type 0
+MayTakeOver None engine = Unit {0}
+MayTakeOver (Some step) engine = (after : State) × LeadsTo step engine after
+
+-- A request was answered, by the plain key manager, or as out of memory or of random bytes, with these draws, and its steps wait.
+pub record Responds (endpoint : List ℕ) (c : Course) (before after : Held) (e : LineEvent) (owed : Owed) (calls : List Call) : Type 0 where
   pub mark : Mark
-  pub reply_is : owed_bytes owed ≡ reply_to endpoint e (answer_at before.state (asked e) mark)
-  pub state : after.state ≡ state_at before.state (asked e) mark
-  pub waits : Waits before after (steps_at before e mark)
+  pub fits : Fits c e.event mark
+  pub keyless : keys_of (mark ∷ []) ≡ []
+  pub only : OnlyDraws calls
+  pub drawing : (calls ≡ []) ⊎ (draws c e.event.time e.event.deed ≡ true)
+  pub no_key : drawn OrderKey calls ≡ []
+  pub few : draw_marks (mark ∷ []) ≤ failed_draws calls
+  pub reply_is : owed_bytes owed ≡ reply_to endpoint e (outcome_at c e.event mark)
+  pub state : HasState after (course_at c e.event mark).state
+  pub waits : Waits before after (steps_if (stores_at c e.event mark))
 
--- While the steps of an event are settled, from this moment on. Where the store failed in it, no more is known of it.
-pub record Settled (keys : List WrappedKey) (before after : Held) (steps more : ℕ) (failed : Bool) (mid : History) (files : List Call) : Type 0 where
-  pub each : AtEach (λ x. IsSettledOrAll keys before.state steps after.state more before.store.journal.generation mid (then_calls mid x)) files
-  pub done : failed ≡ false → IsSettled keys after (steps + more) (then_calls mid files)
-  pub raised : failed ≡ false → after.store.journal.generation + cuts mid.calls ≡ before.store.journal.generation + cuts (then_calls mid files).calls
-  pub quiet : failed ≡ false → IsQuietStore mid → IsQuietStore (then_calls mid files)
-
--- A message was answered: its time was told, its steps were settled by calls on files, and no other call was made. Where one
--- of these failed, which was the last, the fault of the store is owed.
-pub record PreparesReply (endpoint : List ℕ) (before after : Held) (served : Served) (n : ℕ) (owed : Owed) (was : History) (calls : List Call) : Type 0 where
+-- A time was told for these events, and they were answered, with no call but draws: a request and the turns after it. The replies
+-- are owed, and the steps wait.
+pub record AnswersOne (endpoint : List ℕ) (line : ℕ) (group : (t : ℕ) → List LineEvent) (c : Course) (before after : Held) (owed : List ℕ) (calls : List Call) : Type 0 where
   pub time : ℕ
-  pub mark : Mark
-  pub files : List Call
-  pub made : calls ≡ files ++ Told time ∷ []
-  pub only : OnlyFiles files
-  pub idle : steps_at before (event n time served) mark ≡ 0 → files ≡ []
-  pub failed : store_failed files ≡ is_fault owed
-  pub unfailed : IsUnfailedBefore files
-  pub reply_is : is_fault owed ≡ false → owed_bytes owed ≡ reply_to endpoint (event n time served) (answer_at before.state (asked (event n time served)) mark)
-  pub fault_is : is_fault owed ≡ true → owed_bytes owed ≡ fault_reply_of F1
-  pub state : after.state ≡ state_at before.state (asked (event n time served)) mark
-  pub settled : (keys : List WrappedKey) (steps : ℕ) → IsSettled keys before steps was
-      → Settled keys before after steps (steps_at before (event n time served) mark) (is_fault owed) (then_call was (Told time)) files
+  pub marks : List Mark
+  pub draws : List Call
+  pub made : calls ≡ draws ++ Told time ∷ []
+  pub only : OnlyDraws draws
+  pub drawing : (draws ≡ []) ⊎ (some_draw 0 c (map event_of (group time)) marks ≡ true)
+  pub marked : length (group time) ≡ length marks
+  pub fit : AllFit c (map event_of (group time)) marks
+  pub keys : keys_of marks ≡ drawn OrderKey draws
+  pub few : draw_marks marks ≤ failed_draws draws
+  pub reply : owed ≡ replies line endpoint c (group time) marks
+  pub state : HasState after (course_by c (group time) marks).state
+  pub waits : Waits before after (steps_by c (group time) marks)
 
 -- this piece, given on the line l, is what is left of the bytes
 pub record IsLeft (line : ℕ) (bytes : List ℕ) (l : ℕ) (piece : List ℕ) (calls : List Call) : Type 0 where

@@ -9,7 +9,7 @@ use Rattle.kms_http.specs.declared.message.Message.{Message}
 use Rattle.kms_http.specs.declared.served.Served.{Served}
 use Rattle.kms_http.specs.declared.served.Served.TheVariants as served
 use Rattle.kms_http.specs.Routing.{routed}
-use Rattle.kms_json.specs.Operation.{op_of}
+use Rattle.kms_requests.specs.Operation.{op_of}
 
 abbrev pub by_route : Result (Caller × Shape) Refusal → (body : List ℕ) → Request
 by_route (Err refusal) body = Refusing refusal

@@ -3,6 +3,7 @@ use Rattle.std.specs.Prelude.{ℕ, List, [], ◌∷◌, Bool, false, not, ◌&&�
 use Rattle.std.specs.Option.{option_or}
 use Rattle.std.specs.Str.{bytes_eq}
 use Rattle.std.specs.declared.alloc.Global.{Global}
+use Rattle.kms_serve.specs.Plan.{Plan, pipe_plan}
 
 -- a value isn't empty and doesn't begin with a dash
 abbrev pub is_value : List ℕ → Bool
@@ -23,27 +24,31 @@ is_pipe command store_word store keys_word keys endpoint_word endpoint =
     && bytes_eq keys_word (codes "--keys") && is_value keys
     && bytes_eq endpoint_word (codes "--endpoint") && is_value endpoint
 
--- what line 0 is served with: the name of a store, and the text before each link
-pub record Pipe : Type 0 where
-  pub store : List ℕ
-  pub endpoint : List ℕ
-
--- the same, where the words say so
-abbrev pub pipe_of : List (List ℕ) → Option Pipe
-pipe_of (a ∷ b ∷ c ∷ d ∷ e ∷ f ∷ g ∷ []) = if is_pipe a b c d e f g then Some (record { store = c; endpoint = g }) else None
+-- what the words ask for, where they serve line 0 over a store
+abbrev pub pipe_of : List (List ℕ) → Option Plan
+pipe_of (a ∷ b ∷ c ∷ d ∷ e ∷ f ∷ g ∷ []) = if is_pipe a b c d e f g then Some (pipe_plan c e g) else None
 pipe_of _ = None
 
-abbrev pub store_of : Option Pipe → Option (List ℕ)
+abbrev pub store_of : Option Plan → Option (List ℕ)
 store_of None = None
-store_of (Some words) = Some words.store
+store_of (Some plan) = Some plan.store
 
 -- the store that the words create or serve
 abbrev pub named_store : List (List ℕ) → Option (List ℕ)
 named_store words = option_or (init_of words) (store_of (pipe_of words))
 
-abbrev pub endpoint_of : Option Pipe → Option (List ℕ)
+abbrev pub first_name : List (List ℕ) → Option (List ℕ)
+first_name [] = None
+first_name (name ∷ names) = Some name
+
+-- the key file from which they have the master keys
+abbrev pub key_file_of : Option Plan → Option (List ℕ)
+key_file_of None = None
+key_file_of (Some plan) = first_name plan.keys
+
+abbrev pub endpoint_of : Option Plan → Option (List ℕ)
 endpoint_of None = None
-endpoint_of (Some words) = Some words.endpoint
+endpoint_of (Some plan) = Some plan.endpoint
 
 abbrev pub texts : List (String Global) → List (List ℕ)
 texts words = map string_bytes words

@@ -1,26 +1,28 @@
 // Serving a line, in turns.
-ghost use Rattle.std.specs.Prelude.{◌≡◌, ◌≢◌, ◌+◌, ◌*◌, ◌<◌, ◌≤◌, ◌||◌, ◌==◌, ℕ, List, Option, true, length, IfOk};
-ghost use Rattle.kms_host.specs.History.{History, WhereTold, Stops};
-ghost use Rattle.kms_host.specs.Faults.{NeverFalls};
+ghost use Rattle.std.specs.Prelude.{◌≡◌, ◌≢◌, ◌+◌, ◌*◌, ◌<◌, ◌≤◌, ◌||◌, ◌==◌, ℕ, List, Option, length, IfOk, OnOk};
+ghost use Rattle.kms_host.specs.History.{WhereTold, History, Stops};
+ghost use Rattle.kms_host.specs.Faults.{HasCause, NeverFalls};
 ghost use Rattle.kms_host.specs.Line.{IsOpen};
-ghost use Rattle.kms_host.specs.Moment.{Since};
+ghost use Rattle.kms_host.specs.declared.call.Count.TheVariants as counts;
 ghost use Rattle.kms_http.specs.Messages.{front};
-ghost use Rattle.kms_http.specs.Sizes.{longest};
 ghost use Rattle.kms_http.specs.Messages.Front.{Bad, Part};
-ghost use Rattle.kms_serve.specs.Events.{most};
+ghost use Rattle.kms_http.specs.MessageStream.{After, is_last};
+ghost use Rattle.kms_http.specs.Sizes.{longest};
 ghost use Rattle.kms_core.specs.Steps.{IsIdle, IsWorking};
-ghost use Rattle.kms_serve.specs.Owed.{GivesFault, owed_bytes, is_fault};
-ghost use Rattle.kms_serve.specs.Turns.{Good, HasEnded, Left, IsTaken, IsBounded, IsServedEnd, GoesOn, HasCauses, CanServe, serving_of};
+ghost use Rattle.kms_serve.specs.Owed.{owed_bytes};
+ghost use Rattle.kms_serve.specs.Plan.{most};
+ghost use Rattle.kms_serve.specs.Turns.{Good, Owing, Replying, Faulting, HasEnded, IsSettledNow, IsGivenNow, Left, IsTaken, IsTakenOut, IsBounded, IsServedEnd, IsBatchEnd, GoesOn, HasCauses, CanServe, MaySettle, serving_of};
 ghost use Rattle.kms_serve.specs.declared.serving.Serving.{Serving as Session};
 
 use crate::give::give_all;
-use crate::owed::{Owed, is_fault, owed_slice};
-use crate::prepare::prepare;
+use crate::owed::{Owed, owed_slice};
+use crate::prepare::answer_one;
 use crate::serving::{Serving, Turn};
 use crate::status::Status;
 use kms_core::Engine;
 use kms_host::Host;
-use kms_http::{Message, MessageRead, MessageReader, Routes, Served};
+use kms_http::{FaultReply, Message, MessageRead, MessageReader, Routes, Served, fault_reply};
+use kms_journal::StoreFault;
 use kms_world::{NoMemory, Refusal};
 use std::alloc::Global;
 
@@ -38,8 +40,8 @@ fn take_more<H: Host>(host: &mut H, s: &mut Serving, room: &mut [u8]) -> Turn
     requires idle { IsIdle s.old.engine }
     requires working { IsWorking s.old.engine }
     requires ready { WhereTold (H.history host.old) (CanServe s.old.engine) }
-    ensures good { (endpoint store : List ℕ) (start : Option History) →
-        Good endpoint store start (H.history host.old) s.old → Left endpoint store start (H.history host.new) s.new result }
+    ensures good { (endpoint key_file store : List ℕ) (start : Option History) →
+        Good endpoint key_file store start (H.history host.old) s.old → Left endpoint key_file store start (H.history host.new) s.new result }
     ensures idle { result ≡ Turn.Went → IsIdle s.new.engine }
     ensures working { result ≡ Turn.Went → IsWorking s.new.engine }
     ensures ready { result ≡ Turn.Went → WhereTold (H.history host.new) (CanServe s.new.engine) }
@@ -65,28 +67,121 @@ fn take_more<H: Host>(host: &mut H, s: &mut Serving, room: &mut [u8]) -> Turn
 }
 
 // The reply to the next message is the last on the line.
-fn is_last(count: u64, close: bool) -> bool
+fn ends_line(count: u64, close: bool) -> bool
     requires { count < most }
     ensures { result ≡ (close || (count + 1 == most)) }
 {
     close || count + 1 == MOST
 }
 
+// Answers what is served next. Its steps wait to be settled.
+fn answer_batch<H: Host>(
+    alloc: Global,
+    endpoint: &str,
+    host: &mut H,
+    s: &mut Serving,
+    served: &Served,
+    last: bool,
+) -> Owed
+    requires few { s.old.count < most }
+    requires idle { IsIdle s.old.engine }
+    requires working { IsWorking s.old.engine }
+    requires ready { WhereTold (H.history host.old) (CanServe s.old.engine) }
+    ensures owing { (key_file store : List ℕ) (start : Option History) (before : Session) (stand : After) → IsTaken before s.old served.now stand
+        → last ≡ is_last most s.old.count served.now → Good endpoint.now key_file store start (H.history host.old) before
+        → Owing endpoint.now key_file store start (H.history host.new) s.new stand (owed_bytes result) }
+    ensures some { 0 < length (owed_bytes result) }
+    ensures working { IsWorking s.new.engine }
+    ensures ready { WhereTold (H.history host.new) (MaySettle s.new.engine) }
+    ensures count { s.new.count ≡ s.old.count + 1 }
+    ensures reader { s.new.reader ≡ s.old.reader }
+    ensures later { NeverFalls (H.faults host.old) (H.faults host.new) }
+    ensures stops { Stops (H.wanted host.old) (H.wanted host.new) (H.history host.old) (H.history host.new) }
+{
+    let owed = answer_one(
+        alloc,
+        endpoint,
+        &s.routes,
+        &mut s.engine,
+        host,
+        served,
+        last,
+    );
+    s.count += 1;
+    owed
+}
+
+// Settles what was answered.
+fn settle_batch<H: Host>(host: &mut H, s: &mut Serving) -> Result<(), StoreFault>
+    requires working { IsWorking s.old.engine }
+    requires ready { WhereTold (H.history host.old) (MaySettle s.old.engine) }
+    ensures settled { (endpoint key_file store : List ℕ) (start : Option History) (stand : After) (reply : List ℕ) → Owing endpoint key_file store start (H.history host.old) s.old stand reply
+        → IsSettledNow endpoint key_file store start (H.history host.new) s.new stand reply result }
+    ensures open { WhereTold (H.history host.new) (IsOpen 0) }
+    ensures ready { OnOk result (WhereTold (H.history host.new) (CanServe s.new.engine)) }
+    ensures idle { OnOk result (IsIdle s.new.engine) }
+    ensures working { OnOk result (IsWorking s.new.engine) }
+    ensures count { s.new.count ≡ s.old.count }
+    ensures reader { s.new.reader ≡ s.old.reader }
+    ensures cause { HasCause counts.Store (H.faults host.old) (H.faults host.new) result }
+    ensures stops { Stops (H.wanted host.old) (H.wanted host.new) (H.history host.old) (H.history host.new) }
+{
+    s.engine.settle(host)
+}
+
 // Gives the fault of the store, as far as it goes.
-fn give_fault<H: Host>(host: &mut H, owed: &Owed) -> Status
-    requires fault { is_fault owed.now ≡ true }
+fn give_fault<H: Host>(host: &mut H) -> Status
     requires open_line { WhereTold (H.history host.old) (IsOpen 0) }
-    ensures given { Since (H.history host.old) (H.history host.new) (λ was calls. GivesFault (owed_bytes owed.now) calls) }
+    ensures ended { (endpoint key_file store : List ℕ) (start : Option History) → Faulting endpoint key_file store start (H.history host.old) → HasEnded endpoint key_file store start (H.history host.new) result }
     ensures status { result ≡ Status.StoreFault }
     ensures later { NeverFalls (H.faults host.old) (H.faults host.new) }
     ensures stops { Stops (H.wanted host.old) (H.wanted host.new) (H.history host.old) (H.history host.new) }
 {
     // The run ends so whether the line takes it or not.
-    let _ = give_all(host, 0, owed_slice(owed));
+    let _ = give_all(host, 0, fault_reply(FaultReply::F1));
     Status::StoreFault
 }
 
-// Answers the message that was taken out of the reader.
+// Gives the reply to what was answered and settled.
+fn give_batch<H: Host>(host: &mut H, s: &Serving, owed: &Owed) -> Turn
+    requires some { 0 < length (owed_bytes owed.now) }
+    requires ready { WhereTold (H.history host.old) (CanServe s.now.engine) }
+    ensures given { (endpoint key_file store : List ℕ) (start : Option History) (stand : After) → Replying endpoint key_file store start (H.history host.old) s.now stand (owed_bytes owed.now)
+        → IsGivenNow endpoint key_file store start (H.history host.new) s.now stand result }
+    ensures ready { result ≡ Turn.Went → WhereTold (H.history host.new) (CanServe s.now.engine) }
+    ensures ends { result ≢ Turn.Went → result ≡ Turn.Ended Status.LinkFault }
+    ensures causes { HasCauses (H.faults host.old) (H.faults host.new) result }
+    ensures stops { Stops (H.wanted host.old) (H.wanted host.new) (H.history host.old) (H.history host.new) }
+{
+    match give_all(host, 0, owed_slice(owed)) {
+        Ok(()) => Turn::Went,
+        Err(_) => Turn::Ended(Status::LinkFault),
+    }
+}
+
+// Settles what was answered, and gives its reply.
+fn settle_and_give<H: Host>(host: &mut H, s: &mut Serving, owed: &Owed) -> Turn
+    requires some { 0 < length (owed_bytes owed.now) }
+    requires working { IsWorking s.old.engine }
+    requires ready { WhereTold (H.history host.old) (MaySettle s.old.engine) }
+    ensures given { (endpoint key_file store : List ℕ) (start : Option History) (stand : After) → Owing endpoint key_file store start (H.history host.old) s.old stand (owed_bytes owed.now)
+        → IsGivenNow endpoint key_file store start (H.history host.new) s.new stand result }
+    ensures idle { result ≡ Turn.Went → IsIdle s.new.engine }
+    ensures working { result ≡ Turn.Went → IsWorking s.new.engine }
+    ensures ready { result ≡ Turn.Went → WhereTold (H.history host.new) (CanServe s.new.engine) }
+    ensures ends { IsBatchEnd result }
+    ensures count { s.new.count ≡ s.old.count }
+    ensures reader { s.new.reader ≡ s.old.reader }
+    ensures causes { HasCauses (H.faults host.old) (H.faults host.new) result }
+    ensures stops { Stops (H.wanted host.old) (H.wanted host.new) (H.history host.old) (H.history host.new) }
+{
+    match settle_batch(host, s) {
+        Ok(()) => give_batch(host, s, owed),
+        Err(_) => Turn::Ended(give_fault(host)),
+    }
+}
+
+// Serves the message that was taken out of the reader.
 fn serve_request<H: Host>(
     alloc: Global,
     endpoint: &str,
@@ -100,8 +195,8 @@ fn serve_request<H: Host>(
     requires idle { IsIdle s.old.engine }
     requires working { IsWorking s.old.engine }
     requires ready { WhereTold (H.history host.old) (CanServe s.old.engine) }
-    ensures good { (store : List ℕ) (start : Option History) (before : Session) → IsTaken before s.old message →
-        Good endpoint.now store start (H.history host.old) before → Left endpoint.now store start (H.history host.new) s.new result }
+    ensures good { (key_file store : List ℕ) (start : Option History) (before : Session) → IsTakenOut before s.old message →
+        Good endpoint.now key_file store start (H.history host.old) before → Left endpoint.now key_file store start (H.history host.new) s.new result }
     ensures idle { result ≡ Turn.Went → IsIdle s.new.engine }
     ensures working { result ≡ Turn.Went → IsWorking s.new.engine }
     ensures ready { result ≡ Turn.Went → WhereTold (H.history host.new) (CanServe s.new.engine) }
@@ -109,24 +204,12 @@ fn serve_request<H: Host>(
     ensures causes { HasCauses (H.faults host.old) (H.faults host.new) result }
     ensures stops { Stops (H.wanted host.old) (H.wanted host.new) (H.history host.old) (H.history host.new) }
 {
-    let last = is_last(s.count, message.close);
+    let last = ends_line(s.count, message.close);
     let served = Served::Asking(message);
-    let owed = prepare(
-        alloc,
-        endpoint,
-        &s.routes,
-        &mut s.engine,
-        host,
-        &served,
-        last,
-    );
-    s.count += 1;
-    if is_fault(&owed) {
-        return Turn::Ended(give_fault(host, &owed));
-    }
-    match give_all(host, 0, owed_slice(&owed)) {
-        Ok(()) => {}
-        Err(_) => return Turn::Ended(Status::LinkFault),
+    let owed = answer_batch(alloc, endpoint, host, s, &served, last);
+    match settle_and_give(host, s, &owed) {
+        Turn::Went => {}
+        Turn::Ended(status) => return Turn::Ended(status),
     }
     if last {
         host.shut(0);
@@ -148,30 +231,18 @@ fn refuse<H: Host>(
     requires idle { IsIdle s.old.engine }
     requires working { IsWorking s.old.engine }
     requires ready { WhereTold (H.history host.old) (CanServe s.old.engine) }
-    ensures good { (store : List ℕ) (start : Option History) →
-        Good endpoint.now store start (H.history host.old) s.old → Left endpoint.now store start (H.history host.new) s.new result }
+    ensures good { (key_file store : List ℕ) (start : Option History) →
+        Good endpoint.now key_file store start (H.history host.old) s.old → Left endpoint.now key_file store start (H.history host.new) s.new result }
     ensures ends { result ≢ Turn.Went }
     ensures goes { GoesOn s.old s.new result }
     ensures causes { HasCauses (H.faults host.old) (H.faults host.new) result }
     ensures stops { Stops (H.wanted host.old) (H.wanted host.new) (H.history host.old) (H.history host.new) }
 {
     let served = Served::Unreadable(refusal);
-    let owed = prepare(
-        alloc,
-        endpoint,
-        &s.routes,
-        &mut s.engine,
-        host,
-        &served,
-        true,
-    );
-    s.count += 1;
-    if is_fault(&owed) {
-        return Turn::Ended(give_fault(host, &owed));
-    }
-    match give_all(host, 0, owed_slice(&owed)) {
-        Ok(()) => {}
-        Err(_) => return Turn::Ended(Status::LinkFault),
+    let owed = answer_batch(alloc, endpoint, host, s, &served, true);
+    match settle_and_give(host, s, &owed) {
+        Turn::Went => {}
+        Turn::Ended(status) => return Turn::Ended(status),
     }
     host.shut(0);
     Turn::Ended(Status::Unreadable(s.reader.passed()))
@@ -190,8 +261,8 @@ fn take_turn<H: Host>(
     requires idle { IsIdle s.old.engine }
     requires working { IsWorking s.old.engine }
     requires ready { WhereTold (H.history host.old) (CanServe s.old.engine) }
-    ensures good { (store : List ℕ) (start : Option History) →
-        Good endpoint.now store start (H.history host.old) s.old → Left endpoint.now store start (H.history host.new) s.new result }
+    ensures good { (key_file store : List ℕ) (start : Option History) →
+        Good endpoint.now key_file store start (H.history host.old) s.old → Left endpoint.now key_file store start (H.history host.new) s.new result }
     ensures idle { result ≡ Turn.Went → IsIdle s.new.engine }
     ensures working { result ≡ Turn.Went → IsWorking s.new.engine }
     ensures ready { result ≡ Turn.Went → WhereTold (H.history host.new) (CanServe s.new.engine) }
@@ -224,8 +295,8 @@ pub fn serve_line<H: Host>(alloc: Global, endpoint: &str, engine: Engine, host: 
     requires idle { IsIdle engine }
     requires working { IsWorking engine }
     requires ready { WhereTold (H.history host.old) (CanServe engine) }
-    ensures ended { (store : List ℕ) (start : Option History) → Good endpoint.now store start (H.history host.old) (serving_of engine)
-        → HasEnded endpoint.now store start (H.history host.new) result }
+    ensures ended { (key_file store : List ℕ) (start : Option History) → Good endpoint.now key_file store start (H.history host.old) (serving_of engine)
+        → HasEnded endpoint.now key_file store start (H.history host.new) result }
     ensures served { IsServedEnd result }
     ensures causes { HasCauses (H.faults host.old) (H.faults host.new) (Turn.Ended result) }
     ensures stops { Stops (H.wanted host.old) (H.wanted host.new) (H.history host.old) (H.history host.new) }

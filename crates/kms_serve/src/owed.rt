@@ -1,6 +1,6 @@
 // Replies that are prepared and not given yet.
 ghost use Rattle.std.specs.Prelude.{◌≡◌};
-ghost use Rattle.kms_serve.specs.Owed.{owed_bytes, is_fault};
+ghost use Rattle.kms_serve.specs.Owed.{owed_bytes};
 
 use kms_http::{FaultReply, fault_reply};
 use kms_world::Bytes;
@@ -9,9 +9,10 @@ use kms_world::Bytes;
 #[derive(Drop)]
 pub enum Owed {
     Reply(Bytes),
+    /// it had no memory
     OutOfMemory,
-    /// what the request changed could not be stored
-    StoreFault,
+    /// no random bytes could be drawn for it
+    NoDraw,
 }
 
 /// The bytes to be given.
@@ -21,16 +22,6 @@ pub fn owed_slice(owed: &Owed) -> &[u8]
     match owed {
         Owed::Reply(bytes) => bytes.as_slice(),
         Owed::OutOfMemory => fault_reply(FaultReply::F3),
-        Owed::StoreFault => fault_reply(FaultReply::F1),
-    }
-}
-
-/// The store failed.
-pub fn is_fault(owed: &Owed) -> bool
-    ensures { result ≡ is_fault owed.now }
-{
-    match owed {
-        Owed::Reply(_) | Owed::OutOfMemory => false,
-        Owed::StoreFault => true,
+        Owed::NoDraw => fault_reply(FaultReply::F2),
     }
 }

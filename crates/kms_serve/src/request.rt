@@ -3,7 +3,7 @@ ghost use Rattle.std.specs.Prelude.{◌≡◌, IfOk};
 ghost use Rattle.kms_serve.specs.Requests as spec;
 
 use kms_http::{Message, RouteFault, Routes, Served, route};
-use kms_json::op;
+use kms_requests::op;
 use kms_world::{NoMemory, Request};
 use std::alloc::Global;
 

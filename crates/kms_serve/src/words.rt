@@ -71,6 +71,19 @@ pub fn store_of(words: &[String]) -> Option<&str>
     }
 }
 
+/// The key file with whose master keys they serve it. None exactly where they are not such words.
+pub fn key_file_of(words: &[String]) -> Option<&str>
+    ensures { option_copied result ≡ spec.key_file_of (spec.pipe_of (spec.texts words.now)) }
+{
+    if !is_pipe(words) {
+        return None;
+    }
+    match words {
+        [_, _, _, _, key_file, _, _] => Some(key_file.as_str()),
+        _ => None,
+    }
+}
+
 /// The endpoint under which they serve it. None exactly where they are not such words.
 pub fn endpoint_of(words: &[String]) -> Option<&str>
     ensures { option_copied result ≡ spec.endpoint_of (spec.pipe_of (spec.texts words.now)) }

@@ -1,12 +1,13 @@
 use Rattle.std.proofs.Common.{refl, ap, arith, length}
 use Rattle.kms_host.proofs.FaultLaws.{never_falls_same, never_falls_then, stops_same, stops_then}
 use Rattle.kms_host.proofs.Moments.{since_weaker}
-use Rattle.kms_serve.specs.RunStart.{run_start, FromStore}
+use Rattle.kms_serve.specs.Plan.{pipe_plan}
+use Rattle.kms_serve.specs.RunStart.{FromStore}
 use Rattle.kms_serve.specs.Owing.{EndedAt}
 use Rattle.kms_serve.specs.Turns.{serving_of}
 use Rattle.kms_serve.specs.declared.serving.Serving.{Serving}
 use Rattle.kms_serve.specs.declared.status.Status.TheVariants as status
-use Rattle.kms_serve.proofs.OwingLaws.{ended_out_of_memory}
+use Rattle.kms_serve.proofs.TakingLaws.{ended_out_of_memory}
 use Rattle.kms_serve.proofs.TurnLaws.{bounded_first, buffer_length}
 use Rattle.kms_serve.proofs.line.serve_line.Goals as goal
 
@@ -14,7 +15,7 @@ pub loop-status-init : goal.loop-status-init
 loop-status-init g c =
     let s : Serving = record { engine = c.args.engine; reader = c.new-2.result; routes = tt; count = 0 } in
     record {
-      good = λ store start good. rw c.new-2.ensures good;
+      good = λ key_file store start good. rw c.new-2.ensures good;
       idle = c.requires.idle;
       working = c.requires.working;
       ready = c.requires.ready;
@@ -25,18 +26,18 @@ loop-status-init g c =
     }
 
 pub returns-in_default-clause-ended : goal.returns-in_default-clause-ended
-returns-in_default-clause-ended g c store start good =
-    since_weaker (λ was calls. FromStore store was (λ b. EndedAt c.args.endpoint.now b status.NoMemory calls)) good
-    (λ was calls h keys first steps stands. ended_out_of_memory c.args.endpoint.now (run_start store was keys first steps) (serving_of c.args.engine) calls (h keys first steps stands))
+returns-in_default-clause-ended g c key_file store start good =
+    since_weaker (λ was calls. FromStore (pipe_plan store key_file c.args.endpoint.now) was (λ b. EndedAt b status.NoMemory calls)) good
+    (λ was calls h found stands. ended_out_of_memory c.args.endpoint.now key_file store was found (serving_of c.args.engine) calls (h found stands))
 
 pub returns-in_default-new-clause-ended : goal.returns-in_default-new-clause-ended
-returns-in_default-new-clause-ended g c store start good =
-    since_weaker (λ was calls. FromStore store was (λ b. EndedAt c.args.endpoint.now b status.NoMemory calls)) good
-    (λ was calls h keys first steps stands. ended_out_of_memory c.args.endpoint.now (run_start store was keys first steps) (serving_of c.args.engine) calls (h keys first steps stands))
+returns-in_default-new-clause-ended g c key_file store start good =
+    since_weaker (λ was calls. FromStore (pipe_plan store key_file c.args.endpoint.now) was (λ b. EndedAt b status.NoMemory calls)) good
+    (λ was calls h found stands. ended_out_of_memory c.args.endpoint.now key_file store was found (serving_of c.args.engine) calls (h found stands))
 
 pub loop-status-preserved : goal.loop-status-preserved
 loop-status-preserved g c = record {
-  good = λ store start good. c.in-Went.ensures.good store start (c.loop-status.invariant.good store start good);
+  good = λ key_file store start good. c.in-Went.ensures.good key_file store start (c.loop-status.invariant.good key_file store start good);
   idle = c.in-Went.ensures.idle refl;
   working = c.in-Went.ensures.working refl;
   ready = c.in-Went.ensures.ready refl;

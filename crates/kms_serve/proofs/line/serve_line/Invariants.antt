@@ -7,8 +7,8 @@ use Rattle.kms_serve.proofs.line.serve_line.Given as goal
 
 abbrev pub invariant-loop-status : goal.invariant-loop-status
 invariant-loop-status g l = record {
-  good : (store : List ℕ) (start : Option History) → Good l.endpoint store start (g.H.Host.history l.initial.host) (serving_of l.fn.engine)
-      → Good l.endpoint store start (g.H.Host.history l.host) l.s;
+  good : (key_file store : List ℕ) (start : Option History) → Good l.endpoint key_file store start (g.H.Host.history l.initial.host) (serving_of l.fn.engine)
+      → Good l.endpoint key_file store start (g.H.Host.history l.host) l.s;
   idle : IsIdle l.s.engine;
   working : IsWorking l.s.engine;
   ready : WhereTold (g.H.Host.history l.host) (CanServe l.s.engine);
