@@ -66,7 +66,7 @@ def the_reader(folder: Path, counts: bool) -> None:
 
 
 def the_program(folder: Path, count: int, counts: bool) -> None:
-    words = ["pipe", "--store", str(folder / "s"), "--keys", "k", "--endpoint", "http://k/v1"]
+    words = ["pipe", "--store", str(folder / "s"), "--keys", "examples/demo.keys", "--endpoint", "http://k/v1"]
     gets = b"".join(get(id_of(number % SECRETS)) for number in range(count))
 
     def on_a_store(measure, stream: bytes):

@@ -37,7 +37,7 @@ def store(count: int) -> bytes:
 
 
 def opening(name: Path) -> float:
-    words = ["pipe", "--store", str(name), "--keys", "k", "--endpoint", "http://k/v1"]
+    words = ["pipe", "--store", str(name), "--keys", "examples/demo.keys", "--endpoint", "http://k/v1"]
     best = float("inf")
     for _ in range(5):
         start = time.monotonic()

@@ -28,7 +28,7 @@ def id_of(count: int) -> bytes:
 
 def spent(name: Path, stream: bytes) -> float:
     """Seconds of processor time, of the program and of the system for it."""
-    words = ["pipe", "--store", str(name), "--keys", "k", "--endpoint", "http://k/v1"]
+    words = ["pipe", "--store", str(name), "--keys", "examples/demo.keys", "--endpoint", "http://k/v1"]
     before = resource.getrusage(resource.RUSAGE_CHILDREN)
     done = subprocess.run([PROGRAM, *words], input=stream, capture_output=True, check=True)
     after = resource.getrusage(resource.RUSAGE_CHILDREN)

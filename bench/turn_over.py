@@ -46,7 +46,7 @@ def reply(stream: BinaryIO) -> bytes:
 
 def replies(name: Path, posts: int) -> list[float]:
     """Seconds from each POST to the end of its reply. A GET before them waits until the store is open."""
-    words = ["pipe", "--store", str(name), "--keys", "k", "--endpoint", "http://k/v1"]
+    words = ["pipe", "--store", str(name), "--keys", "examples/demo.keys", "--endpoint", "http://k/v1"]
     times = []
     with subprocess.Popen([PROGRAM, *words], stdin=subprocess.PIPE, stdout=subprocess.PIPE) as program:
         program.stdin.write(get(id_of(0)))

@@ -58,4 +58,31 @@ exec 3>&-
 wait "$process" 2>/dev/null || true
 secrets_of first >>kept
 has_all s kept
+
+# payloads: sealed on the disk, under the master key of the file alone
+has() {
+    sed "s/SECRET/$secret/" "$here/examples/payload.http" >request
+    ends 0 pipe --store s --keys "$1" --endpoint http://k/v1 <request
+    tail -n 1 reply | grep -q '^not a real private key$' || fail "the payload isn't what was put"
+}
+
+pipe 0 <"$here/examples/post_payload.http"
+secret=$(secrets_of reply)
+has k
+if grep -q 'real private' s.0 s.1; then
+    fail "a payload stands in plain on the disk"
+fi
+cat other k >both
+has both
+ends 7 pipe --store s --keys other --endpoint http://k/v1 </dev/null
+grep -q '^barbicand: no master key for project web$' said || fail "another master key is refused by: $(cat said)"
+ends 11 pipe --store s --keys absent --endpoint http://k/v1 </dev/null
+grep -q '^barbicand: key file fault$' said || fail "no key file is refused by: $(cat said)"
+: >none
+ends 2 pipe --store s --keys none --endpoint http://k/v1 </dev/null
+grep -q '^barbicand: key file line 1: not a key$' said || fail "an empty key file is refused by: $(cat said)"
+cat k k >twice
+ends 2 pipe --store s --keys twice --endpoint http://k/v1 </dev/null
+grep -q '^barbicand: key file line 2: same as line 1$' said || fail "a key that stands twice is refused by: $(cat said)"
+has k
 echo "keeps_secrets: ok"

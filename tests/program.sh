@@ -15,6 +15,9 @@ fail() {
 room=$(mktemp -d)
 trap 'rm -rf "$room"' EXIT
 cd "$room" || exit 1
+# a key file of one master key, and another
+echo AAECAwQFBgcICQoLDA0ODxAREhMUFRYXGBkaGxwdHh8= >k
+echo ICEiIyQlJicoKSorLC0uLzAxMjM0NTY3ODk6Ozw9Pj8= >other
 
 # Ends with this status, and leaves what was written in the files said and reply.
 ends() {
