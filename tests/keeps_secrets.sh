@@ -76,13 +76,29 @@ cat other k >both
 has both
 ends 7 pipe --store s --keys other --endpoint http://k/v1 </dev/null
 grep -q '^barbicand: no master key for project web$' said || fail "another master key is refused by: $(cat said)"
-ends 11 pipe --store s --keys absent --endpoint http://k/v1 </dev/null
-grep -q '^barbicand: key file fault$' said || fail "no key file is refused by: $(cat said)"
+
+# a key file that can't be read, or is none, is refused before the store is opened
+mkdir folder
+mkfifo fifo
+ln -s loop loop
+for keys in absent folder fifo loop /dev/zero k/under; do
+    ends 11 pipe --store s --keys "$keys" --endpoint http://k/v1 </dev/null
+    grep -q '^barbicand: key file fault$' said || fail "the key file $keys is refused by: $(cat said)"
+done
 : >none
-ends 2 pipe --store s --keys none --endpoint http://k/v1 </dev/null
-grep -q '^barbicand: key file line 1: not a key$' said || fail "an empty key file is refused by: $(cat said)"
+tr '\n' '\r' <k >carriage
+head -c 2000 /dev/zero | tr '\0' A >long
+for keys in none carriage long; do
+    ends 2 pipe --store s --keys "$keys" --endpoint http://k/v1 </dev/null
+    grep -q '^barbicand: key file line 1: not a key$' said || fail "the key file $keys is refused by: $(cat said)"
+done
 cat k k >twice
 ends 2 pipe --store s --keys twice --endpoint http://k/v1 </dev/null
 grep -q '^barbicand: key file line 2: same as line 1$' said || fail "a key that stands twice is refused by: $(cat said)"
+cp s.0 kept.0
+ends 2 pipe --store s --keys twice --endpoint http://k/v1 <"$here/examples/post.http"
+cmp -s s.0 kept.0 || fail "a store was written under a key file that is none"
+tr -d '\n' <k >unended
+has unended
 has k
 echo "keeps_secrets: ok"
