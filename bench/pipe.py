@@ -17,7 +17,7 @@ FIELDS = b"X-Project-Id: p1\r\nX-User-Id: u1\r\nX-Roles: creator\r\n"
 SIZES = [0, 32, 1_024, 20_000]
 
 
-def post(number: int, size: int) -> bytes:
+def post(number: int, size: int = 0) -> bytes:
     body = b'{"name":"secret %d"' % number
     if size:
         body += b',"payload":"' + b"p" * size + b'","payload_content_type":"text/plain"'
@@ -26,7 +26,7 @@ def post(number: int, size: int) -> bytes:
     return head + b"Content-Length: %d\r\n\r\n" % len(body) + body
 
 
-def get(secret: bytes, behind: bytes) -> bytes:
+def get(secret: bytes, behind: bytes = b"") -> bytes:
     return b"GET /v1/secrets/" + secret + behind + b" HTTP/1.1\r\n" + FIELDS + b"\r\n"
 
 
