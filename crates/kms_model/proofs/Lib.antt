@@ -1,7 +1,16 @@
 pub mod AlikeLaws
 pub mod AskLaws
+pub mod DeletionLaws
+pub mod OrderFollowing
+pub mod OrderMoves
+pub mod OrderRequests
+pub mod OrderRuns
+pub mod OrderStaying
+pub mod OrderTurns
 pub mod PageAlikeLaws
 pub mod PayloadReading
 pub mod PayloadTests
+pub mod PoolLaws
+pub mod PostedOrders
 pub mod SecretLaws
 pub mod StatusLaws

@@ -95,7 +95,7 @@ is_granted s caller action row is = rw is refl
 eqb_same : (n : ℕ) → (n == n) ≡ true
 eqb_same n = grind arith
 
-next_given : (s : State) → ids_with (next_id s) s ≡ s.ids + 1
+pub next_given : (s : State) → ids_with (next_id s) s ≡ s.ids + 1
 next_given s = rw (eqb_same (next_id s).0) refl
 
 -- no secret has the next id yet
@@ -109,7 +109,7 @@ pub record IsPosted (s : State) (caller : Caller) (body : SecretBody) (t : ℕ) 
   pub ids : (after_effects done.effects s).ids ≡ s.ids + 1
   pub last : IsNextApart s → (after_effects done.effects s).secrets ≡ s.secrets ++ with_any_payload t new.payload (new_secret s caller new t) ∷ []
 
-done_same : (d e : Done) → (let x : Result Done Refusal = Ok d in let y : Result Done Refusal = Ok e in x ≡ y) → d ≡ e
+pub done_same : (d e : Done) → (let x : Result Done Refusal = Ok d in let y : Result Done Refusal = Ok e in x ≡ y) → d ≡ e
 done_same d e is = cc
 
 ids_after : (s : State) (caller : Caller) (new : NewSecret) (t : ℕ) (payload : Option Payload) → (after_effects (posted_effects (new_secret s caller new t) t payload) s).ids ≡ s.ids + 1

@@ -6,12 +6,15 @@ pub mod Consumers
 pub mod Containers
 pub mod Counts
 pub mod Course
+pub mod Deletion
 pub mod Done
 pub mod Lists
 pub mod Metadata
+pub mod OrderLaw
 pub mod Orders
 pub mod Payloads
 pub mod Permission
+pub mod Pool
 pub mod Quotas
 pub mod Requests
 pub mod Secrets

@@ -4,4 +4,5 @@
 
 pub mod alike_laws;
 pub mod laws;
+pub mod order_laws;
 pub mod payload_laws;
