@@ -62,7 +62,7 @@ from_map {X} f xs y is =
     All-contains (λ z. (x : X) × Contains xs x × (z ≡ f x)) (map f xs) y
     (All-map (λ z. (x : X) × Contains xs x × (z ≡ f x)) f xs (All-weaker (Contains xs) (λ x. (w : X) × Contains xs w × (f x ≡ f w)) (λ x among. (x, among, refl)) xs (All-contains_itself xs))) is
 
-pub to_map : {X : Type 0} (f : X → X) (xs : List X) (x : X) → Contains xs x → Contains (map f xs) (f x)
+pub to_map : {X Y : Type 0} (f : X → Y) (xs : List X) (x : X) → Contains xs x → Contains (map f xs) (f x)
 to_map f [] x is = absurd (none_among x is)
 to_map f (y ∷ ys) x is = elim (split y x ys is) [
   | inl same ↦ subst (Contains (f y ∷ map f ys)) (ap f same) (here (f y) (map f ys))

@@ -1,10 +1,13 @@
 pub mod AclLaws
 pub mod ConsumerLaws
 pub mod ContainerLaws
+pub mod FillingLaws
 pub mod FitLaws
 pub mod FoundLaws
+pub mod KeptOrderLaws
 pub mod ListLaws
 pub mod MemberLaws
+pub mod OrderLaws
 pub mod PairLaws
 pub mod PayloadLaws
 pub mod QuotaLaws

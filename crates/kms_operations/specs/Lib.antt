@@ -1,4 +1,5 @@
 pub mod Change
+pub mod Filling
 pub mod Found
 pub mod Outcome
 pub mod Pairs

@@ -2,6 +2,7 @@
 ghost use Rattle.std.specs.Prelude.{◌≡◌, Some, None, option_map, option_copied};
 ghost use Rattle.kms_policy.specs.Policy.{row_of};
 ghost use Rattle.kms_model.specs.Containers.{container_target};
+ghost use Rattle.kms_model.specs.Orders.{order_target};
 ghost use Rattle.kms_model.specs.Permission.{granted, may};
 ghost use Rattle.kms_model.specs.Secrets.{secret_target};
 ghost use Rattle.kms_world.specs.Checked.{IsUnlessNoMemory};
@@ -9,7 +10,7 @@ ghost use Rattle.kms_world.specs.declared.action.Action.TheVariants.{SecretGet, 
 
 use kms_policy::{Target, decide};
 use kms_store::Tables;
-use kms_world::{Action, Caller, CheckFault, ContainerRow, Refusal, SecretRow};
+use kms_world::{Action, Caller, CheckFault, ContainerRow, OrderRow, Refusal, SecretRow};
 
 // The policy grants the action on this row, None where it is about no row.
 fn granted_on(caller: &Caller, action: Action, target: Option<&Target>) -> Result<(), CheckFault>
@@ -58,6 +59,18 @@ pub fn granted_on_container(
         project: row.project,
         creator: row.creator,
         acl: rows.acl(row.id),
+    };
+    granted_on(caller, action, Some(&target))
+}
+
+// The policy grants the action on the order.
+pub fn granted_on_order(caller: &Caller, action: Action, row: &OrderRow) -> Result<(), CheckFault>
+    ensures { IsUnlessNoMemory result (granted caller.now action (Some (order_target row.now))) }
+{
+    let target = Target {
+        project: row.project,
+        creator: row.creator,
+        acl: None,
     };
     granted_on(caller, action, Some(&target))
 }
