@@ -1,2 +1,3 @@
 pub mod Phrases
 mod Floats
+pub mod TokenLaws

@@ -5,8 +5,8 @@ pub mod Link
 pub mod List
 pub mod Metadata
 pub mod Order
-pub mod OrderParts
 pub mod Quota
 pub mod Refused
 pub mod Secret
+pub mod Tokens
 pub mod Values

@@ -1,7 +1,8 @@
 -- Orders as objects (Barbican API v1, the response to GET /v1/orders/{uuid}), their keys in the order of their bytes.
-use Rattle.std.specs.Prelude.{ℕ, List, codes}
+use Rattle.std.specs.Prelude.{ℕ, List, Option, Some, None, option_map, codes}
 use Rattle.serde_json.specs.Data.{unsigned, Data, number, string, object, Members, member, no_members}
 use Rattle.kms_world.specs.Media.{word_of as media_word}
+use Rattle.kms_world.specs.declared.id.Id.{Id}
 use Rattle.kms_world.specs.declared.payload.Media.TheVariants.{OctetStream}
 use Rattle.kms_world.specs.declared.order.Cause.{Cause}
 use Rattle.kms_world.specs.declared.order.Cause.TheVariants.{Unsupported, QuotaReached, IdsSpent}
@@ -10,6 +11,7 @@ use Rattle.kms_world.specs.declared.order.OrderState.{OrderState}
 use Rattle.kms_world.specs.declared.order.OrderState.TheVariants.{Pending, Active, Error}
 use Rattle.kms_text.specs.declared.link.Kind.TheVariants as kind
 use Rattle.kms_text.specs.Link.{link_of}
+use Rattle.kms_json.specs.Tokens.{with_optional}
 use Rattle.kms_json.specs.Values.{text_or_null, time_data, time_or_null}
 
 abbrev pub status_of : OrderState → List ℕ
@@ -29,17 +31,26 @@ reason_of QuotaReached = codes "quota of secrets reached"
 reason_of IdsSpent = codes "ids spent"
 
 -- why the order failed, if it did
-abbrev pub with_error : OrderState → Members → Members
-with_error Pending rest = rest
-with_error (Active secret) rest = rest
-with_error (Error cause) rest =
-    member (codes "error_reason") (string (reason_of cause)) (member (codes "error_status_code") (string (code_of cause)) rest)
+abbrev pub cause_of : OrderState → Option Cause
+cause_of Pending = None
+cause_of (Active secret) = None
+cause_of (Error cause) = Some cause
 
 -- the secret that was made, if there is one
-abbrev pub with_secret : List ℕ → OrderState → Members → Members
-with_secret endpoint Pending rest = rest
-with_secret endpoint (Active secret) rest = member (codes "secret_ref") (string (link_of endpoint kind.Secret secret)) rest
-with_secret endpoint (Error cause) rest = rest
+abbrev pub secret_of : OrderState → Option Id
+secret_of Pending = None
+secret_of (Active secret) = Some secret
+secret_of (Error cause) = None
+
+abbrev pub reason_data : Cause → Data
+reason_data cause = string (reason_of cause)
+
+abbrev pub code_data : Cause → Data
+code_data cause = string (code_of cause)
+
+-- links are under an endpoint
+abbrev pub secret_link : List ℕ → Id → Data
+secret_link endpoint id = string (link_of endpoint kind.Secret id)
 
 -- what was ordered
 abbrev pub meta_data : OrderRow → Data
@@ -51,18 +62,27 @@ meta_data row = object (
     member (codes "name") (text_or_null row.name) (
     member (codes "payload_content_type") (string (media_word OctetStream)) no_members))))))
 
--- the members of an order in this state; links are under an endpoint
-abbrev pub order_members : List ℕ → OrderState → OrderRow → Members
-order_members endpoint state row =
-    member (codes "created") (time_data row.created) (
-    member (codes "creator_id") (string row.creator) (
-    with_error state (
+-- the members from the status on
+abbrev pub last_members : OrderRow → Members
+last_members row =
+    member (codes "status") (string (status_of row.state)) (
+    member (codes "type") (string (codes "key")) (
+    member (codes "updated") (time_data row.updated) no_members))
+
+-- what was ordered, and the members behind it; links are under an endpoint
+abbrev pub later_members : List ℕ → OrderRow → Members
+later_members endpoint row =
     member (codes "meta") (meta_data row) (
     member (codes "order_ref") (string (link_of endpoint kind.Order row.id)) (
-    with_secret endpoint state (
-    member (codes "status") (string (status_of state)) (
-    member (codes "type") (string (codes "key")) (
-    member (codes "updated") (time_data row.updated) no_members))))))))
+    with_optional (codes "secret_ref") (option_map (secret_link endpoint) (secret_of row.state)) (last_members row)))
+
+-- the members of an order
+abbrev pub order_members : List ℕ → OrderRow → Members
+order_members endpoint row =
+    member (codes "created") (time_data row.created) (
+    member (codes "creator_id") (string row.creator) (
+    with_optional (codes "error_reason") (option_map reason_data (cause_of row.state)) (
+    with_optional (codes "error_status_code") (option_map code_data (cause_of row.state)) (later_members endpoint row))))
 
 abbrev pub order_data : List ℕ → OrderRow → Data
-order_data endpoint row = object (order_members endpoint row.state row)
+order_data endpoint row = object (order_members endpoint row)

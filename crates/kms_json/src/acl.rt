@@ -1,67 +1,75 @@
 // Access lists as bodies.
-ghost use Rattle.std.specs.Prelude.{◌≡◌, Some, None, IfOk};
-ghost use Rattle.serde_json.specs.View.{view, members_view};
+ghost use Rattle.std.specs.Prelude.{◌≡◌, map, Some, None, OnOk};
+ghost use Rattle.serde_json.specs.Data.{string};
 ghost use Rattle.kms_world.specs.Times.{IsTimelyAcl, IsTimelyIfAny};
 ghost use Rattle.kms_json.specs.Acl.{users_data, read_members, acl_data};
+ghost use Rattle.kms_json.specs.Tokens.{Adds, data_tokens, ending_tokens, items_tokens};
 
-use crate::members::{put, put_time};
-use crate::values::object_of;
+use crate::writing::{put_bool, put_time};
+use json::Writer;
 use kms_world::{AclRow, Name, NoMemory};
-use serde_json::{Map, Value};
-use std::alloc::Global;
 
-fn users_value(alloc: Global, users: &[Name]) -> Result<Value, NoMemory>
-    ensures { IfOk result (λ value. view value ≡ users_data users.now) }
+fn put_users(out: &mut Writer, users: &[Name]) -> Result<(), NoMemory>
+    ensures { OnOk result (Adds out.old out.new (items_tokens (map string users.now))) }
 {
-    let mut values = Vec::new(alloc);
     for user in users {
-        values.push(Value::try_from_str(alloc, user.as_str())?)?;
+        out.string(user.as_str())?;
     }
-    Ok(Value::Array(values))
+    Ok(())
 }
 
-// The members where there is no access list.
-fn no_list(alloc: Global) -> Result<Map<String, Value>, NoMemory>
-    ensures { IfOk result (λ members. members_view members.entries ≡ read_members None) }
+fn write_users(out: &mut Writer, users: &[Name]) -> Result<(), NoMemory>
+    ensures { OnOk result (Adds out.old out.new (data_tokens (users_data users.now))) }
 {
-    let mut members = Map::new(alloc);
-    put(alloc, &mut members, "project-access", Value::Bool(true))?;
-    Ok(members)
+    out.begin_array()?;
+    put_users(out, users)?;
+    out.end_array()?;
+    Ok(())
 }
 
-fn list(alloc: Global, row: &AclRow) -> Result<Map<String, Value>, NoMemory>
+// The members of an access list, and the end of the object.
+fn put_list(out: &mut Writer, row: &AclRow) -> Result<(), NoMemory>
     requires { IsTimelyAcl row.now }
-    ensures { IfOk result (λ members. members_view members.entries ≡ read_members (Some row.now)) }
+    ensures { OnOk result (Adds out.old out.new (ending_tokens (read_members (Some row.now)))) }
 {
-    let mut members = Map::new(alloc);
-    put_time(alloc, &mut members, "created", row.created)?;
-    put(
-        alloc,
-        &mut members,
-        "project-access",
-        Value::Bool(row.project_access),
-    )?;
-    put_time(alloc, &mut members, "updated", row.updated)?;
-    let users = users_value(alloc, row.users.as_slice())?;
-    put(alloc, &mut members, "users", users)?;
-    Ok(members)
+    put_time(out, "created", row.created)?;
+    put_bool(out, "project-access", row.project_access)?;
+    put_time(out, "updated", row.updated)?;
+    out.key("users")?;
+    write_users(out, row.users.as_slice())?;
+    out.end_object()?;
+    Ok(())
 }
 
-fn members(alloc: Global, row: &Option<AclRow>) -> Result<Map<String, Value>, NoMemory>
+// The one member where there is no access list, and the end of the object.
+fn put_none(out: &mut Writer) -> Result<(), NoMemory>
+    ensures { OnOk result (Adds out.old out.new (ending_tokens (read_members None))) }
+{
+    put_bool(out, "project-access", true)?;
+    out.end_object()?;
+    Ok(())
+}
+
+// The members where there may be an access list, and the end of the object.
+fn put_members(out: &mut Writer, row: &Option<AclRow>) -> Result<(), NoMemory>
     requires { IsTimelyIfAny row.now }
-    ensures { IfOk result (λ members. members_view members.entries ≡ read_members row.now) }
+    ensures { OnOk result (Adds out.old out.new (ending_tokens (read_members row.now))) }
 {
     match row {
-        None => no_list(alloc),
-        Some(row) => list(alloc, row),
+        None => put_none(out),
+        Some(row) => put_list(out, row),
     }
 }
 
 // The object of an access list.
-pub(crate) fn acl_value(alloc: Global, row: &Option<AclRow>) -> Result<Value, NoMemory>
+pub(crate) fn write_acl(out: &mut Writer, row: &Option<AclRow>) -> Result<(), NoMemory>
     requires { IsTimelyIfAny row.now }
-    ensures { IfOk result (λ value. view value ≡ acl_data row.now) }
+    ensures { OnOk result (Adds out.old out.new (data_tokens (acl_data row.now))) }
 {
-    let members = members(alloc, row)?;
-    object_of(alloc, "read", Value::Object(members))
+    out.begin_object()?;
+    out.key("read")?;
+    out.begin_object()?;
+    put_members(out, row)?;
+    out.end_object()?;
+    Ok(())
 }

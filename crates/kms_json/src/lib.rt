@@ -5,7 +5,6 @@ mod acl;
 mod container;
 mod link;
 mod list;
-mod members;
 mod metadata;
 mod order;
 #[cfg(test)]
@@ -19,6 +18,6 @@ mod secret;
 mod table;
 #[cfg(test)]
 mod tests;
-mod values;
+mod writing;
 
 pub use reply::answer;

@@ -1,12 +1,13 @@
 // Links as bodies.
-ghost use Rattle.std.specs.Prelude.{◌≡◌, IfOk};
-ghost use Rattle.serde_json.specs.View.{view};
+ghost use Rattle.std.specs.Prelude.{◌≡◌, ◌++◌, string_bytes, IfOk, OnOk};
+ghost use Rattle.kms_text.specs.Link.{link_of};
 ghost use Rattle.kms_json.specs.Link.{key_of, kind_of, link_data, part_of};
+ghost use Rattle.kms_json.specs.Tokens.{Adds, data_tokens};
 
-use crate::values::object_of;
+use crate::writing::put_text;
+use json::Writer;
 use kms_text::{Kind, ref_text};
 use kms_world::{Id, Link, NoMemory};
-use serde_json::Value;
 use std::alloc::Global;
 
 fn kind(link: Link) -> Kind
@@ -41,17 +42,28 @@ fn part(link: Link) -> &'static str
     }
 }
 
-// The object of a link, as `{"secret_ref":".."}`.
-pub(crate) fn link_value(
-    alloc: Global,
-    endpoint: &str,
-    link: Link,
-    id: Id,
-) -> Result<Value, NoMemory>
-    ensures { IfOk result (λ value. view value ≡ link_data endpoint.now link id) }
+fn link_text(alloc: Global, endpoint: &str, link: Link, id: Id) -> Result<String, NoMemory>
+    ensures { IfOk result (λ text. string_bytes text ≡ link_of endpoint.now (kind_of link) id ++ part_of link) }
 {
     let object = ref_text(alloc, endpoint, kind(link), id)?;
     let mut text = String::from_str(alloc, object.as_str())?;
     text.push_str(part(link))?;
-    object_of(alloc, key(link), Value::String(text))
+    Ok(text)
+}
+
+// The object of a link, as `{"secret_ref":".."}`.
+pub(crate) fn write_link(
+    alloc: Global,
+    out: &mut Writer,
+    endpoint: &str,
+    link: Link,
+    id: Id,
+) -> Result<(), NoMemory>
+    ensures { OnOk result (Adds out.old out.new (data_tokens (link_data endpoint.now link id))) }
+{
+    let text = link_text(alloc, endpoint, link, id)?;
+    out.begin_object()?;
+    put_text(out, key(link), text.as_str())?;
+    out.end_object()?;
+    Ok(())
 }

@@ -1,16 +1,15 @@
 // Orders as bodies.
-ghost use Rattle.std.specs.Prelude.{◌≡◌, IfOk};
-ghost use Rattle.serde_json.specs.View.{view, members_view};
+ghost use Rattle.std.specs.Prelude.{◌≡◌, codes, option_map, OnOk};
 ghost use Rattle.kms_world.specs.Times.{IsTimelyOrder};
-ghost use Rattle.kms_world.specs.declared.order.OrderState.TheVariants.{Pending};
-ghost use Rattle.kms_json.specs.Order.{code_of, reason_of, meta_data, order_data};
-ghost use Rattle.kms_json.specs.OrderParts.{plain_members};
+ghost use Rattle.kms_json.specs.Order.{cause_of, code_data, code_of, last_members, later_members, meta_data, order_data, reason_data, reason_of, secret_link, secret_of, status_of};
+ghost use Rattle.kms_json.specs.Tokens.{Adds, data_tokens, ending_tokens, member_tokens, optional_tokens};
 
-use crate::members::{put, put_optional_text, put_optional_time, put_text, put_time};
-use crate::values::link_to;
+use crate::writing::{
+    put_link, put_number, put_optional_text, put_optional_time, put_text, put_time,
+};
+use json::Writer;
 use kms_text::Kind;
 use kms_world::{Cause, Media, NoMemory, OrderRow, OrderState};
-use serde_json::{Map, Value};
 use std::alloc::Global;
 
 const fn code(cause: Cause) -> &'static str
@@ -33,73 +32,113 @@ const fn reason(cause: Cause) -> &'static str
     }
 }
 
-fn meta_value(alloc: Global, row: &OrderRow) -> Result<Value, NoMemory>
+// What was ordered.
+fn put_meta(out: &mut Writer, row: &OrderRow) -> Result<(), NoMemory>
     requires { IsTimelyOrder row.now }
-    ensures { IfOk result (λ value. view value ≡ meta_data row.now) }
+    ensures { OnOk result (Adds out.old out.new (member_tokens (codes "meta") (meta_data row.now))) }
 {
-    let mut members = Map::new(alloc);
-    put_text(alloc, &mut members, "algorithm", row.algorithm.as_str())?;
-    put(
-        alloc,
-        &mut members,
-        "bit_length",
-        Value::from(row.bit_length),
-    )?;
-    put_optional_time(alloc, &mut members, "expiration", row.expiration)?;
-    put_optional_text(alloc, &mut members, "mode", &row.mode)?;
-    put_optional_text(alloc, &mut members, "name", &row.name)?;
-    put_text(
-        alloc,
-        &mut members,
-        "payload_content_type",
-        Media::OctetStream.word(),
-    )?;
-    Ok(Value::Object(members))
+    out.key("meta")?;
+    out.begin_object()?;
+    put_text(out, "algorithm", row.algorithm.as_str())?;
+    put_number(out, "bit_length", u64::from(row.bit_length))?;
+    put_optional_time(out, "expiration", row.expiration)?;
+    put_optional_text(out, "mode", &row.mode)?;
+    put_optional_text(out, "name", &row.name)?;
+    put_text(out, "payload_content_type", Media::OctetStream.word())?;
+    out.end_object()?;
+    Ok(())
 }
 
-// The members of an order, but for its status and what hangs on it.
-fn plain_order(
+const fn status(state: OrderState) -> &'static str
+    ensures { result.now ≡ status_of state }
+{
+    match state {
+        OrderState::Pending => "PENDING",
+        OrderState::Active(_) => "ACTIVE",
+        OrderState::Error(_) => "ERROR",
+    }
+}
+
+// The members from the status on, and the end of the object.
+fn put_last(out: &mut Writer, row: &OrderRow) -> Result<(), NoMemory>
+    requires { IsTimelyOrder row.now }
+    ensures { OnOk result (Adds out.old out.new (ending_tokens (last_members row.now))) }
+{
+    put_text(out, "status", status(row.state))?;
+    put_text(out, "type", "key")?;
+    put_time(out, "updated", row.updated)?;
+    out.end_object()?;
+    Ok(())
+}
+
+// The secret that was made, if there is one.
+fn put_secret(
     alloc: Global,
+    out: &mut Writer,
+    state: OrderState,
+    endpoint: &str,
+) -> Result<(), NoMemory>
+    ensures { OnOk result (Adds out.old out.new (optional_tokens (codes "secret_ref") (option_map (secret_link endpoint.now) (secret_of state)))) }
+{
+    match state {
+        OrderState::Pending | OrderState::Error(_) => Ok(()),
+        OrderState::Active(secret) => {
+            put_link(alloc, out, "secret_ref", endpoint, Kind::Secret, secret)
+        }
+    }
+}
+
+// Why the order failed, if it did.
+fn put_reason(out: &mut Writer, state: OrderState) -> Result<(), NoMemory>
+    ensures { OnOk result (Adds out.old out.new (optional_tokens (codes "error_reason") (option_map reason_data (cause_of state)))) }
+{
+    match state {
+        OrderState::Pending | OrderState::Active(_) => Ok(()),
+        OrderState::Error(cause) => put_text(out, "error_reason", reason(cause)),
+    }
+}
+
+fn put_code(out: &mut Writer, state: OrderState) -> Result<(), NoMemory>
+    ensures { OnOk result (Adds out.old out.new (optional_tokens (codes "error_status_code") (option_map code_data (cause_of state)))) }
+{
+    match state {
+        OrderState::Pending | OrderState::Active(_) => Ok(()),
+        OrderState::Error(cause) => put_text(out, "error_status_code", code(cause)),
+    }
+}
+
+// What was ordered, the members behind it, and the end of the object.
+fn put_later(
+    alloc: Global,
+    out: &mut Writer,
     row: &OrderRow,
     endpoint: &str,
-) -> Result<Map<String, Value>, NoMemory>
+) -> Result<(), NoMemory>
     requires { IsTimelyOrder row.now }
-    ensures { IfOk result (λ members. members_view members.entries ≡ plain_members endpoint.now row.now) }
+    ensures { OnOk result (Adds out.old out.new (ending_tokens (later_members endpoint.now row.now))) }
 {
-    let mut members = Map::new(alloc);
-    put_time(alloc, &mut members, "created", row.created)?;
-    put_text(alloc, &mut members, "creator_id", row.creator.as_str())?;
-    let meta = meta_value(alloc, row)?;
-    put(alloc, &mut members, "meta", meta)?;
-    let link = link_to(alloc, endpoint, Kind::Order, row.id)?;
-    put(alloc, &mut members, "order_ref", link)?;
-    put_text(alloc, &mut members, "type", "key")?;
-    put_time(alloc, &mut members, "updated", row.updated)?;
-    Ok(members)
+    put_meta(out, row)?;
+    put_link(alloc, out, "order_ref", endpoint, Kind::Order, row.id)?;
+    put_secret(alloc, out, row.state, endpoint)?;
+    put_last(out, row)?;
+    Ok(())
 }
 
 // The object of an order.
-pub(crate) fn order_value(alloc: Global, row: &OrderRow, endpoint: &str) -> Result<Value, NoMemory>
+pub(crate) fn write_order(
+    alloc: Global,
+    out: &mut Writer,
+    row: &OrderRow,
+    endpoint: &str,
+) -> Result<(), NoMemory>
     requires { IsTimelyOrder row.now }
-    ensures { IfOk result (λ value. view value ≡ order_data endpoint.now row.now) }
+    ensures { OnOk result (Adds out.old out.new (data_tokens (order_data endpoint.now row.now))) }
 {
-    let mut members = plain_order(alloc, row, endpoint)?;
-    match row.state {
-        OrderState::Pending => {
-            put_text(alloc, &mut members, "status", "PENDING")?;
-            Ok(Value::Object(members))
-        }
-        OrderState::Active(secret) => {
-            let link = link_to(alloc, endpoint, Kind::Secret, secret)?;
-            put(alloc, &mut members, "secret_ref", link)?;
-            put_text(alloc, &mut members, "status", "ACTIVE")?;
-            Ok(Value::Object(members))
-        }
-        OrderState::Error(cause) => {
-            put_text(alloc, &mut members, "error_reason", reason(cause))?;
-            put_text(alloc, &mut members, "error_status_code", code(cause))?;
-            put_text(alloc, &mut members, "status", "ERROR")?;
-            Ok(Value::Object(members))
-        }
-    }
+    out.begin_object()?;
+    put_time(out, "created", row.created)?;
+    put_text(out, "creator_id", row.creator.as_str())?;
+    put_reason(out, row.state)?;
+    put_code(out, row.state)?;
+    put_later(alloc, out, row, endpoint)?;
+    Ok(())
 }

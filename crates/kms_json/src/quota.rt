@@ -1,48 +1,54 @@
 // Quotas as bodies.
-ghost use Rattle.std.specs.Prelude.{◌≡◌, IfOk};
-ghost use Rattle.serde_json.specs.View.{view};
+ghost use Rattle.std.specs.Prelude.{◌≡◌, OnOk};
 ghost use Rattle.kms_json.specs.Quota.{limits_data, quotas_data, project_quotas_data, project_data};
+ghost use Rattle.kms_json.specs.Tokens.{Adds, data_tokens};
 
-use crate::members::{put, put_integer, put_text};
-use crate::values::object_of;
+use crate::writing::{put_optional_integer, put_text};
+use json::Writer;
 use kms_world::{NoMemory, QuotaRow};
-use serde_json::{Map, Value};
-use std::alloc::Global;
 
-fn limits_value(alloc: Global, row: &QuotaRow) -> Result<Value, NoMemory>
-    ensures { IfOk result (λ value. view value ≡ limits_data row.now) }
+fn write_limits(out: &mut Writer, row: &QuotaRow) -> Result<(), NoMemory>
+    ensures { OnOk result (Adds out.old out.new (data_tokens (limits_data row.now))) }
 {
-    let mut members = Map::new(alloc);
-    put_integer(alloc, &mut members, "consumers", row.consumers)?;
-    put_integer(alloc, &mut members, "containers", row.containers)?;
-    put_integer(alloc, &mut members, "orders", row.orders)?;
-    put_integer(alloc, &mut members, "secrets", row.secrets)?;
-    Ok(Value::Object(members))
+    out.begin_object()?;
+    put_optional_integer(out, "consumers", row.consumers)?;
+    put_optional_integer(out, "containers", row.containers)?;
+    put_optional_integer(out, "orders", row.orders)?;
+    put_optional_integer(out, "secrets", row.secrets)?;
+    out.end_object()?;
+    Ok(())
 }
 
 // The object of the limits in force.
-pub(crate) fn quotas_value(alloc: Global, row: &QuotaRow) -> Result<Value, NoMemory>
-    ensures { IfOk result (λ value. view value ≡ quotas_data row.now) }
+pub(crate) fn write_quotas(out: &mut Writer, row: &QuotaRow) -> Result<(), NoMemory>
+    ensures { OnOk result (Adds out.old out.new (data_tokens (quotas_data row.now))) }
 {
-    let limits = limits_value(alloc, row)?;
-    object_of(alloc, "quotas", limits)
+    out.begin_object()?;
+    out.key("quotas")?;
+    write_limits(out, row)?;
+    out.end_object()?;
+    Ok(())
 }
 
 // The object of a project's quotas as they were set.
-pub(crate) fn project_quotas_value(alloc: Global, row: &QuotaRow) -> Result<Value, NoMemory>
-    ensures { IfOk result (λ value. view value ≡ project_quotas_data row.now) }
+pub(crate) fn write_project_quotas(out: &mut Writer, row: &QuotaRow) -> Result<(), NoMemory>
+    ensures { OnOk result (Adds out.old out.new (data_tokens (project_quotas_data row.now))) }
 {
-    let limits = limits_value(alloc, row)?;
-    object_of(alloc, "project_quotas", limits)
+    out.begin_object()?;
+    out.key("project_quotas")?;
+    write_limits(out, row)?;
+    out.end_object()?;
+    Ok(())
 }
 
 // The object of a project and its quotas, in a list.
-pub(crate) fn project_value(alloc: Global, row: &QuotaRow) -> Result<Value, NoMemory>
-    ensures { IfOk result (λ value. view value ≡ project_data row.now) }
+pub(crate) fn write_project(out: &mut Writer, row: &QuotaRow) -> Result<(), NoMemory>
+    ensures { OnOk result (Adds out.old out.new (data_tokens (project_data row.now))) }
 {
-    let mut members = Map::new(alloc);
-    put_text(alloc, &mut members, "project_id", row.project.as_str())?;
-    let limits = limits_value(alloc, row)?;
-    put(alloc, &mut members, "project_quotas", limits)?;
-    Ok(Value::Object(members))
+    out.begin_object()?;
+    put_text(out, "project_id", row.project.as_str())?;
+    out.key("project_quotas")?;
+    write_limits(out, row)?;
+    out.end_object()?;
+    Ok(())
 }

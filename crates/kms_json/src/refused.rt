@@ -1,12 +1,13 @@
 // Refusals as bodies.
-ghost use Rattle.std.specs.Prelude.{◌≡◌, IfOk, option_map, string_bytes};
+ghost use Rattle.std.specs.Prelude.{◌≡◌, IfOk, OnOk, option_map, string_bytes};
 ghost use Rattle.http.specs.StatusCode.{IsStatusCode, reason_phrase};
-ghost use Rattle.serde_json.specs.View.{view};
 ghost use Rattle.kms_json.specs.Refused.{status_of, name_of, description_of, title_of, error_data, allow_of};
+ghost use Rattle.kms_json.specs.Tokens.{Adds, data_tokens};
 
+use crate::writing::{put_number, put_text};
 use http::StatusCode;
-use kms_world::{Allow, Refusal};
-use serde_json::{Value, json};
+use json::Writer;
+use kms_world::{Allow, NoMemory, Refusal};
 use std::alloc::{AllocError, Global};
 
 // The status of a refusal (RFC 9110 section 15; 431: RFC 6585 section 5).
@@ -96,13 +97,16 @@ fn title(refusal: Refusal) -> &'static str
 }
 
 // The object of a refusal: `{"code":404,"description":"NoObject","title":"Not Found"}`.
-pub(crate) fn error_value(alloc: Global, refusal: Refusal) -> Result<Value, AllocError>
-    ensures { IfOk result (λ value. view value ≡ error_data refusal) }
+pub(crate) fn write_error(alloc: Global, out: &mut Writer, refusal: Refusal) -> Result<(), NoMemory>
+    ensures { OnOk result (Adds out.old out.new (data_tokens (error_data refusal))) }
 {
-    let code = status(refusal);
     let description = description(alloc, refusal)?;
-    let title = title(refusal);
-    json!(in alloc; {"code": code, "description": description, "title": title})
+    out.begin_object()?;
+    put_number(out, "code", u64::from(status(refusal)))?;
+    put_text(out, "description", description.as_str())?;
+    put_text(out, "title", title(refusal))?;
+    out.end_object()?;
+    Ok(())
 }
 
 // The methods of the path, where the request had another (RFC 9110 section 15.5.6).

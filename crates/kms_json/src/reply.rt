@@ -1,47 +1,81 @@
 // Answers as replies.
-ghost use Rattle.std.specs.Prelude.{◌≡◌, None, false, IfOk};
-ghost use Rattle.serde_json.specs.View.{view};
-ghost use Rattle.serde_json.specs.Written.{has_float};
+ghost use Rattle.std.specs.Prelude.{◌≡◌, [], None, IfOk};
+ghost use Rattle.json.specs.Written.{Written};
+ghost use Rattle.serde_json.specs.Data.{Data};
+ghost use Rattle.serde_json.specs.Written.{compact_text};
 ghost use Rattle.kms_world.specs.Times.{HasTimes, IsTimely, IsTimelyContainer, IsTimelyIfAny, IsTimelyOrder, RowsHaveTimes};
-ghost use Rattle.kms_page.specs.Query.{query_of};
+ghost use Rattle.kms_page.specs.Query.{IsInRange, query_of};
 ghost use Rattle.kms_json.specs.Acl.{acl_data};
 ghost use Rattle.kms_json.specs.Container.{container_data};
 ghost use Rattle.kms_json.specs.Link.{link_data};
-ghost use Rattle.kms_json.specs.List.{listing_of};
+ghost use Rattle.kms_json.specs.List.{list_data, listing_of};
 ghost use Rattle.kms_json.specs.Metadata.{metadata_data, pair_data};
 ghost use Rattle.kms_json.specs.Order.{order_data};
 ghost use Rattle.kms_json.specs.Quota.{quotas_data, project_quotas_data};
 ghost use Rattle.kms_json.specs.Secret.{secret_data};
+ghost use Rattle.kms_json.specs.Tokens.{Adds, data_tokens};
 ghost use Rattle.kms_json.specs.Answer as spec;
 
-use crate::acl::acl_value;
-use crate::container::container_value;
-use crate::link::link_value;
-use crate::list::{list_value, listing};
-use crate::metadata::{metadata_value, pair_value};
-use crate::order::order_value;
-use crate::quota::{project_quotas_value, quotas_value};
-use crate::refused::{allow, error_value, status};
-use crate::secret::secret_value;
-use crate::values::body_of;
+use crate::acl::write_acl;
+use crate::container::write_container;
+use crate::link::write_link;
+use crate::list::{listing, write_list};
+use crate::metadata::{metadata_body, write_pair};
+use crate::order::write_order;
+use crate::quota::{write_project_quotas, write_quotas};
+use crate::refused::{allow, status, write_error};
+use crate::secret::write_secret;
+use json::Writer;
 use kms_page::{Query, QueryFault};
 use kms_world::{
     AclRow, Answer, Bytes, ContainerView, Id, Link, ListRows, Media, Media2, NoMemory, OrderRow,
     Payload, QuotaRow, Refusal, Reply, SecretRow, Text,
 };
-use serde_json::Value;
 use std::alloc::Global;
 
-#[tactic(auto, using(crate::proofs::Floats::no_float_error))]
+/// Room for the body of one object, in bytes.
+const ROOM: usize = 512;
+
+// What the body of a reply is written to.
+fn writer(alloc: Global) -> Result<Writer, NoMemory>
+    ensures before { IfOk result (λ out. out.before ≡ []) }
+    ensures tokens { IfOk result (λ out. out.tokens ≡ []) }
+{
+    Ok(Writer::new(Vec::with_capacity(alloc, ROOM)?))
+}
+
+// The body that was written.
+#[tactic(auto, using(crate::proofs::TokenLaws::printed))]
+fn body(out: Writer) -> Bytes
+    requires { out.before ≡ [] }
+    ensures { (d : Data) (start : Written) → start.tokens ≡ [] → Adds start out (data_tokens d) → result ≡ compact_text d }
+{
+    Bytes::from_vec(out.into_inner())
+}
+
+// The reply whose body was written.
+fn shown(status: u16, out: Writer) -> Reply
+    requires { out.before ≡ [] }
+    ensures { (d : Data) (start : Written) → start.tokens ≡ [] → Adds start out (data_tokens d) → result ≡ spec.json_reply status None d }
+{
+    Reply {
+        status,
+        media: Some(Media2::Json),
+        allow: None,
+        body: body(out),
+    }
+}
+
 fn refused(alloc: Global, refusal: Refusal) -> Result<Reply, NoMemory>
     ensures { IfOk result (λ reply. reply ≡ spec.refused_reply refusal) }
 {
-    let value = error_value(alloc, refusal)?;
+    let mut out = writer(alloc)?;
+    write_error(alloc, &mut out, refusal)?;
     Ok(Reply {
         status: status(refusal),
         media: Some(Media2::Json),
         allow: allow(refusal),
-        body: body_of(alloc, &value)?,
+        body: body(out),
     })
 }
 
@@ -76,97 +110,104 @@ fn payload(alloc: Global, payload: &Payload) -> Result<Reply, NoMemory>
     })
 }
 
-// The reply whose body is a value without floats.
-fn shown(alloc: Global, status: u16, value: &Value) -> Result<Reply, NoMemory>
-    requires { has_float (view value.now) ≡ false }
-    ensures { IfOk result (λ reply. reply ≡ spec.json_reply status None (view value.now)) }
-{
-    Ok(Reply {
-        status,
-        media: Some(Media2::Json),
-        allow: None,
-        body: body_of(alloc, value)?,
-    })
-}
-
-#[tactic(auto, using(crate::proofs::Floats::no_float_link))]
 fn link(alloc: Global, status: u16, link: Link, id: Id, endpoint: &str) -> Result<Reply, NoMemory>
     ensures { IfOk result (λ reply. reply ≡ spec.json_reply status None (link_data endpoint.now link id)) }
 {
-    let value = link_value(alloc, endpoint, link, id)?;
-    shown(alloc, status, &value)
+    let mut out = writer(alloc)?;
+    write_link(alloc, &mut out, endpoint, link, id)?;
+    Ok(shown(status, out))
 }
 
-#[tactic(auto, using(crate::proofs::Floats::no_float_secret))]
 fn secret(alloc: Global, row: &SecretRow, endpoint: &str) -> Result<Reply, NoMemory>
     requires { IsTimely row.now }
     ensures { IfOk result (λ reply. reply ≡ spec.json_reply 200 None (secret_data endpoint.now row.now)) }
 {
-    let value = secret_value(alloc, row, endpoint)?;
-    shown(alloc, 200, &value)
+    let mut out = writer(alloc)?;
+    write_secret(alloc, &mut out, row, endpoint)?;
+    Ok(shown(200, out))
 }
 
-#[tactic(auto, using(crate::proofs::Floats::no_float_metadata))]
 fn metadata(alloc: Global, pairs: &[(Text, Text)]) -> Result<Reply, NoMemory>
     ensures { IfOk result (λ reply. reply ≡ spec.json_reply 200 None (metadata_data pairs.now)) }
 {
-    let value = metadata_value(alloc, pairs)?;
-    shown(alloc, 200, &value)
+    Ok(Reply {
+        status: 200,
+        media: Some(Media2::Json),
+        allow: None,
+        body: metadata_body(alloc, pairs)?,
+    })
 }
 
-#[tactic(auto, using(crate::proofs::Floats::no_float_pair))]
 fn pair(alloc: Global, status: u16, key: &Text, value: &Text) -> Result<Reply, NoMemory>
     ensures { IfOk result (λ reply. reply ≡ spec.json_reply status None (pair_data key.now value.now)) }
 {
-    let value = pair_value(alloc, key, value)?;
-    shown(alloc, status, &value)
+    let mut out = writer(alloc)?;
+    write_pair(&mut out, key, value)?;
+    Ok(shown(status, out))
 }
 
-#[tactic(auto, using(crate::proofs::Floats::no_float_acl))]
 fn acl(alloc: Global, row: &Option<AclRow>) -> Result<Reply, NoMemory>
     requires { IsTimelyIfAny row.now }
     ensures { IfOk result (λ reply. reply ≡ spec.json_reply 200 None (acl_data row.now)) }
 {
-    let value = acl_value(alloc, row)?;
-    shown(alloc, 200, &value)
+    let mut out = writer(alloc)?;
+    write_acl(&mut out, row)?;
+    Ok(shown(200, out))
 }
 
-#[tactic(auto, using(crate::proofs::Floats::no_float_order))]
 fn order(alloc: Global, row: &OrderRow, endpoint: &str) -> Result<Reply, NoMemory>
     requires { IsTimelyOrder row.now }
     ensures { IfOk result (λ reply. reply ≡ spec.json_reply 200 None (order_data endpoint.now row.now)) }
 {
-    let value = order_value(alloc, row, endpoint)?;
-    shown(alloc, 200, &value)
+    let mut out = writer(alloc)?;
+    write_order(alloc, &mut out, row, endpoint)?;
+    Ok(shown(200, out))
 }
 
-#[tactic(auto, using(crate::proofs::Floats::no_float_container))]
 fn container(alloc: Global, one: &ContainerView, endpoint: &str) -> Result<Reply, NoMemory>
     requires { IsTimelyContainer one.now.row }
     ensures { IfOk result (λ reply. reply ≡ spec.json_reply 200 None (container_data endpoint.now one.now)) }
 {
-    let value = container_value(alloc, one, endpoint)?;
-    shown(alloc, 200, &value)
+    let mut out = writer(alloc)?;
+    write_container(alloc, &mut out, one, endpoint)?;
+    Ok(shown(200, out))
 }
 
-#[tactic(auto, using(crate::proofs::Floats::no_float_limits))]
 fn quotas(alloc: Global, row: &QuotaRow) -> Result<Reply, NoMemory>
     ensures { IfOk result (λ reply. reply ≡ spec.json_reply 200 None (quotas_data row.now)) }
 {
-    let value = quotas_value(alloc, row)?;
-    shown(alloc, 200, &value)
+    let mut out = writer(alloc)?;
+    write_quotas(&mut out, row)?;
+    Ok(shown(200, out))
 }
 
-#[tactic(auto, using(crate::proofs::Floats::no_float_limits))]
 fn project_quotas(alloc: Global, row: &QuotaRow) -> Result<Reply, NoMemory>
     ensures { IfOk result (λ reply. reply ≡ spec.json_reply 200 None (project_quotas_data row.now)) }
 {
-    let value = project_quotas_value(alloc, row)?;
-    shown(alloc, 200, &value)
+    let mut out = writer(alloc)?;
+    write_project_quotas(&mut out, row)?;
+    Ok(shown(200, out))
 }
 
 // The page that a query asks for.
-#[tactic(auto, using(crate::proofs::Floats::no_float_list))]
+fn shown_list(
+    alloc: Global,
+    endpoint: &str,
+    path: &str,
+    query: &Query,
+    rows: &ListRows,
+    total: u64,
+) -> Result<Reply, NoMemory>
+    requires range { IsInRange query.now }
+    requires times { RowsHaveTimes rows.now }
+    ensures { IfOk result (λ reply. reply ≡ spec.json_reply 200 None (list_data endpoint.now path.now query.now rows.now total)) }
+{
+    let mut out = writer(alloc)?;
+    write_list(alloc, &mut out, endpoint, path, query, rows, total)?;
+    Ok(shown(200, out))
+}
+
+// The page that a query asks for, or why it asks for none.
 fn list(
     alloc: Global,
     endpoint: &str,
@@ -180,10 +221,7 @@ fn list(
         (λ reply. reply ≡ spec.list_reply endpoint.now path.now (query_of (listing_of rows.now) query.now) rows.now total) }
 {
     match Query::read(alloc, listing(rows), query.as_str().as_bytes()) {
-        Ok(query) => {
-            let value = list_value(alloc, endpoint, path.as_str(), &query, rows, total)?;
-            shown(alloc, 200, &value)
-        }
+        Ok(query) => { shown_list(alloc, endpoint, path.as_str(), &query, rows, total) }
         Err(QueryFault::Bad(field)) => refused(alloc, Refusal::BadBody(field)),
         Err(QueryFault::NoMemory) => Err(NoMemory),
     }
